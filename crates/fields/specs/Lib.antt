@@ -1,0 +1,6 @@
+pub mod Bytes
+pub mod Heads
+pub mod Places
+pub mod Questions
+pub mod Refusals
+pub mod Room
