@@ -10,7 +10,7 @@ use Rattle.std.proofs.shelf.Tests.{cond-true, cond-false}
 use Rattle.std.specs.declared.option.Option.{Option}
 use Rattle.std.specs.declared.option.Option.the-variants.{Some, None}
 use Rattle.std.specs.declared.result.Result.the-variants.{Ok, Err}
-use Rattle.fields.specs.Questions.{first-no, answered}
+use Rattle.fields.specs.Questions.{first-no, answered, carried}
 
 -- the first i questions are answered yes
 module _ {F : Type 0} (qs : List (Bool × F)) (i : ℕ) (so-far : first-no qs ≡ first-no (drop i qs)) where
@@ -69,3 +69,21 @@ all-yes (q ∷ qs) e = let one = yes-one (q .0) (q .1) qs e in (one .0, all-yes 
 pub none-from-yes : {F : Type 0} (qs : List (Bool × F)) → Yes qs → first-no qs ≡ None
 none-from-yes [] y = refl
 none-from-yes (q ∷ qs) y = cond-true (q .0) _ _ (y .0) ∙ none-from-yes qs (y .1)
+
+-- a fault that is carried into another type is still the first
+module _ {E F : Type 0} (into : E → F) where
+  one-none : (b : Bool) (o : Option E) (p : Option F) (e : E) → cond b o (Some e) ≡ None → (o ≡ None → p ≡ None) → cond b p (Some (into e)) ≡ None
+  one-none true o p e is rest = rest is
+  one-none false o p e is rest = absurd (some-none is)
+
+  pub carried-none : (qs : List (Bool × E)) → first-no qs ≡ None → first-no (carried into qs) ≡ None
+  carried-none [] is = refl
+  carried-none (q ∷ qs) is = one-none (q .0) _ _ (q .1) is (carried-none qs)
+
+  one-some : (b : Bool) (o : Option E) (p : Option F) (e f : E) → cond b o (Some e) ≡ Some f → (o ≡ Some f → p ≡ Some (into f)) → cond b p (Some (into e)) ≡ Some (into f)
+  one-some true o p e f is rest = rest is
+  one-some false o p e f is rest = let same : e ≡ f = cc in ap (λ x. Some (into x)) same
+
+  pub carried-some : (qs : List (Bool × E)) (f : E) → first-no qs ≡ Some f → first-no (carried into qs) ≡ Some (into f)
+  carried-some [] f is = absurd (some-none (sym is))
+  carried-some (q ∷ qs) f is = one-some (q .0) _ _ (q .1) f is (carried-some qs f)

@@ -1,13 +1,14 @@
 -- One write after another. Assumes nothing.
-use mathlib.Core.Path.{_≡_, refl, sym, ap, _∙_}
-use mathlib.Core.List.{List, [], _∷_, _++_, append-assoc, append-nil}
-use Prim.Native.Nat.{ℕ, _+_, _-_, _≤_, _<_}
+use mathlib.Core.Path.{_≡_, sym, ap, subst, _∙_}
+use mathlib.Core.List.{List, [], _∷_, _++_, append-assoc}
+use Prim.Native.Nat.{ℕ, _+_, _≤_, _<_}
 use native.Mathlib.Nat.{add-zero, zero-add}
 use native.Mathlib.Omega.{arith}
-use lib.ListN.{length, take, drop, length-append, length-drop, take-append-drop}
+use lib.ListN.{length, getD, take, drop, length-append, length-drop, take-append-drop}
 use borrow.Rule.Slice.PartMut.{putMid}
-use Rattle.std.proofs.shelf.Lists.{drop-drop, length-take-le, take-at, drop-at}
-use Rattle.fields.specs.Places.{put-at}
+use Rattle.std.proofs.shelf.Lists.{drop-drop, length-take-le, take-at, drop-at, take-more, take-all, joined-more}
+use Rattle.std.specs.Joined.{joined}
+use Rattle.fields.specs.Places.{put-at, Laid}
 
 -- after a copy to `buffer[a..a + k]`
 pub put-mid : (a k : ℕ) (xs ys zs : List ℕ) → ys ≡ zs → length zs ≡ k → putMid a k xs ys ≡ put-at xs a zs
@@ -15,11 +16,14 @@ put-mid a k xs ys zs e long =
     ap (λ l. take a xs ++ (l ++ drop k (drop a xs))) e
     ∙ ap (λ l. take a xs ++ (zs ++ l)) (drop-drop k a xs ∙ ap (λ w. drop (a + w) xs) (sym long))
 
-pub put-none : (xs : List ℕ) (a : ℕ) → xs ≡ put-at xs a []
+put-none : (xs : List ℕ) (a : ℕ) → xs ≡ put-at xs a []
 put-none xs a = sym (take-append-drop a xs) ∙ ap (λ k. take a xs ++ drop k xs) (sym (add-zero a))
 
-pub put-first : (xs bs : List ℕ) → put-at xs 0 bs ≡ bs ++ drop (length bs) xs
+put-first : (xs bs : List ℕ) → put-at xs 0 bs ≡ bs ++ drop (length bs) xs
 put-first xs bs = ap (λ k. bs ++ drop k xs) (zero-add (length bs))
+
+length-put : (xs bs : List ℕ) (a : ℕ) → a + length bs ≤ length xs → length (put-at xs a bs) ≡ length xs
+length-put xs bs a h = omega (arith, length-append (take a xs) (bs ++ drop (a + length bs) xs), length-append bs (drop (a + length bs) xs), length-drop (a + length bs) xs, length-take-le a xs (omega arith))
 
 module _ (xs x y : List ℕ) (a b : ℕ) (at : a + length x ≡ b) (fits : b ≤ length xs) where
   front-long : length (take a xs ++ x) ≡ b
@@ -42,6 +46,33 @@ module _ (xs x y : List ℕ) (a b : ℕ) (at : a + length x ≡ b) (fits : b ≤
       let two = append-assoc x y (drop (a + length (x ++ y)) xs) in
       cc
 
-  -- two writes, the second where the first ends, are one
-  pub and-then : (ys zs : List ℕ) → ys ≡ put-at xs a x → zs ≡ put-at ys b y → zs ≡ put-at xs a (x ++ y)
-  and-then ys zs e g = g ∙ ap (λ l. put-at l b y) e ∙ put-put
+-- nothing is written
+pub laid-none : (xs : List ℕ) (a : ℕ) → a ≤ length xs → Laid xs xs a [] a
+laid-none xs a h = record { fits = omega (arith, add-zero a); ends = sym (add-zero a); becomes = put-none xs a }
+
+length-laid : {xs ys x : List ℕ} {a p : ℕ} → Laid xs ys a x p → length ys ≡ length xs
+length-laid {xs} {ys} {x} {a} l = ap length (l .becomes) ∙ length-put xs x a (l .fits)
+
+-- two writes, the second where the first ends, are one
+pub laid-then : {xs ys zs x y : List ℕ} {a p q : ℕ} → Laid xs ys a x p → Laid ys zs p y q → Laid xs zs a (x ++ y) q
+laid-then {xs} {ys} {zs} {x} {y} {a} {p} {q} l m =
+    let long = length-laid l in
+    let fits : a + length x + length y ≤ length xs = omega (arith, l .ends, m .fits) in
+    record {
+      fits = omega (arith, length-append x y);
+      ends = omega (arith, l .ends, m .ends, length-append x y);
+      becomes = m .becomes ∙ ap (λ l′. put-at l′ p y) (l .becomes) ∙ put-put xs x y a p (sym (l .ends)) (omega (arith, l .ends));
+    }
+
+-- one item more of a row, each written by its bytes
+pub laid-more : {X : Type 0} (f : X → List ℕ) (items : List X) (i : ℕ) (x : X) {xs ys zs : List ℕ} {a p q : ℕ} → i < length items → x ≡ getD items i x → Laid xs ys a (joined f (take i items)) p → Laid ys zs p (f x) q → Laid xs zs a (joined f (take (i + 1) items)) q
+laid-more f items i x {xs} {ys} {zs} {a} {p} {q} h is so-far more =
+    let push : joined f (take i items) ++ f x ≡ joined f (take (i + 1) items) = joined-more f [] (take i items) x ∙ ap (joined f) (sym (take-more items i x h ∙ ap (λ y. take i items ++ y ∷ []) (sym is))) in
+    subst (λ bs. Laid xs zs a bs q) push (laid-then so-far more)
+
+pub laid-all : {X : Type 0} (f : X → List ℕ) (items : List X) (i : ℕ) {xs ys : List ℕ} {a p : ℕ} → length items ≤ i → Laid xs ys a (joined f (take i items)) p → Laid xs ys a (joined f items) p
+laid-all f items i {xs} {ys} {a} {p} h so-far = subst (λ l. Laid xs ys a (joined f l) p) (take-all i items h) so-far
+
+-- what is written from the start on stands there, and what follows is as it was
+pub laid-first : {xs ys bs : List ℕ} {p : ℕ} → Laid xs ys 0 bs p → ys ≡ bs ++ drop (length bs) xs
+laid-first {xs} {ys} {bs} l = l .becomes ∙ put-first xs bs

@@ -15,3 +15,8 @@ first-no (q ∷ qs) = cond (q .0) (first-no qs) (Some (q .1))
 abbrev pub answered : {F : Type 0} → Option F → Result Unit F
 answered None = Ok tt
 answered (Some e) = Err e
+
+-- the same questions, each fault carried into another type
+abbrev pub carried : {E F : Type 0} → (E → F) → List (Bool × E) → List (Bool × F)
+carried into [] = []
+carried into (q ∷ qs) = (q .0, into (q .1)) ∷ carried into qs

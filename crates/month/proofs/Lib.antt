@@ -1,0 +1,4 @@
+pub mod Every
+pub mod Running
+pub mod Validity
+pub mod Percents

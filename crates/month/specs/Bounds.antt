@@ -1,0 +1,18 @@
+-- How large sums are where no number is outside its limit. Assumes nothing.
+use Prim.Native.Nat.{ℕ, _≤_}
+use Rattle.month.specs.Amounts.{all-bought, sold}
+use Rattle.month.specs.Figures.{Figures}
+
+pub record Bounded (f : Figures) : Type 0 where
+  pub costs : all-bought f .cost ≤ 40000000000
+  pub taken : all-bought f .taken ≤ 40000000000
+  pub passed : all-bought f .passed ≤ 40000000000
+  pub pilferage : f .pilferage ≤ 5000000000
+  pub line-cost : f .transmission .cost ≤ 5000000000
+  pub line-taken : f .transmission .taken ≤ 5000000000
+  pub line-passed : f .transmission .passed ≤ 5000000000
+  pub substation : f .energy .substation ≤ 10000000
+  pub feeder : f .energy .feeder ≤ 10000000
+  pub ungenerated : f .exempt .generation ≤ 10000000
+  pub untransmitted : f .exempt .transmission ≤ 10000000
+  pub sales : sold f ≤ 50000000

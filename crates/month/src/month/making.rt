@@ -1,0 +1,25 @@
+// Making a month, and looking at what it states.
+ghost use mathlib.Core.Path.{_≡_};
+ghost use Rattle.std.specs.Results.{Cases};
+ghost use Rattle.month.specs.Making.{Made, Refused};
+use super::Month;
+use crate::fault::MonthFault;
+use crate::statement::Statement;
+use fields::first_no;
+
+impl Month {
+    // The month of this statement, unless one of the questions 6 to 11 is answered no.
+    pub fn new(statement: Statement) -> Result<Month, MonthFault>
+        ensures { λ r. ⌜ Cases r (λ m. Made statement m) (λ e. Refused statement e) ⌝ }
+    {
+        first_no(&statement.limits())?;
+        first_no(&statement.rules())?;
+        Ok(Month { statement })
+    }
+
+    pub fn statement(&self) -> &Statement
+        ensures { λ r. ⌜ now r ≡ now (self .entry) .statement ⌝ }
+    {
+        &self.statement
+    }
+}
