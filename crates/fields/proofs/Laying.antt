@@ -1,6 +1,6 @@
 -- One write after another. Assumes nothing.
 use mathlib.Core.Path.{_≡_, sym, ap, subst, _∙_}
-use mathlib.Core.List.{List, [], _∷_, _++_, append-assoc}
+use mathlib.Core.List.{List, [], _∷_, _++_, append-assoc, append-nil}
 use Prim.Native.Nat.{ℕ, _+_, _≤_, _<_}
 use native.Mathlib.Nat.{add-zero, zero-add}
 use native.Mathlib.Omega.{arith}
@@ -8,6 +8,7 @@ use lib.ListN.{length, getD, take, drop, length-append, length-drop, take-append
 use borrow.Rule.Slice.PartMut.{putMid}
 use Rattle.std.proofs.shelf.Lists.{drop-drop, length-take-le, take-at, drop-at, take-more, take-all, joined-more}
 use Rattle.std.specs.Joined.{joined}
+use Rattle.fields.specs.Bytes.{head-of, field-of}
 use Rattle.fields.specs.Places.{put-at, Laid}
 
 -- after a copy to `buffer[a..a + k]`
@@ -64,11 +65,23 @@ laid-then {xs} {ys} {zs} {x} {y} {a} {p} {q} l m =
       becomes = m .becomes ∙ ap (λ l′. put-at l′ p y) (l .becomes) ∙ put-put xs x y a p (sym (l .ends)) (omega (arith, l .ends));
     }
 
+-- bytes that are known to be others
+pub laid-as : {xs ys x y : List ℕ} {a p : ℕ} → x ≡ y → Laid xs ys a x p → Laid xs ys a y p
+laid-as {xs} {ys} {a = a} {p = p} e l = subst (λ bs. Laid xs ys a bs p) e l
+
+-- nothing follows
+pub laid-last : {xs ys x : List ℕ} {a p : ℕ} → Laid xs ys a x p → Laid xs ys a (x ++ []) p
+laid-last {x = x} l = laid-as (sym (append-nil x)) l
+
+-- a head and then its value
+pub laid-field : {xs ys zs h v : List ℕ} {a p q : ℕ} (tag size : ℕ) → h ≡ head-of tag size → size ≡ length v → Laid xs ys a h p → Laid ys zs p v q → Laid xs zs a (field-of tag v) q
+laid-field {v = v} tag size is long head value = laid-as (ap (λ l. l ++ v) (is ∙ ap (head-of tag) long)) (laid-then head value)
+
 -- one item more of a row, each written by its bytes
-pub laid-more : {X : Type 0} (f : X → List ℕ) (items : List X) (i : ℕ) (x : X) {xs ys zs : List ℕ} {a p q : ℕ} → i < length items → x ≡ getD items i x → Laid xs ys a (joined f (take i items)) p → Laid ys zs p (f x) q → Laid xs zs a (joined f (take (i + 1) items)) q
-laid-more f items i x {xs} {ys} {zs} {a} {p} {q} h is so-far more =
+pub laid-more : {X : Type 0} (f : X → List ℕ) (items : List X) (i : ℕ) (x : X) {xs ys zs bs : List ℕ} {a p q : ℕ} → i < length items → x ≡ getD items i x → bs ≡ f x → Laid xs ys a (joined f (take i items)) p → Laid ys zs p bs q → Laid xs zs a (joined f (take (i + 1) items)) q
+laid-more f items i x {xs} {ys} {zs} {bs} h is bytes so-far more =
     let push : joined f (take i items) ++ f x ≡ joined f (take (i + 1) items) = joined-more f [] (take i items) x ∙ ap (joined f) (sym (take-more items i x h ∙ ap (λ y. take i items ++ y ∷ []) (sym is))) in
-    subst (λ bs. Laid xs zs a bs q) push (laid-then so-far more)
+    laid-as push (laid-then so-far (laid-as bytes more))
 
 pub laid-all : {X : Type 0} (f : X → List ℕ) (items : List X) (i : ℕ) {xs ys : List ℕ} {a p : ℕ} → length items ≤ i → Laid xs ys a (joined f (take i items)) p → Laid xs ys a (joined f items) p
 laid-all f items i {xs} {ys} {a} {p} h so-far = subst (λ l. Laid xs ys a (joined f l) p) (take-all i items h) so-far

@@ -1,5 +1,8 @@
 pub mod Asked
-pub mod Lengths
-pub mod Taking
-pub mod Numerals
 pub mod Laying
+pub mod Lengths
+pub mod Numerals
+pub mod Rows
+pub mod Taking
+pub mod Rooms
+pub mod There

@@ -1,0 +1,71 @@
+-- What reading a file answers. Assumes nothing.
+use mathlib.Core.Path.{_≡_, sym, ap, subst, _∙_}
+use mathlib.Core.List.{List, [], _∷_}
+use Prim.Native.Nat.{ℕ}
+use Rattle.std.specs.Results.{Cases}
+use Rattle.std.specs.declared.option.Option.the-variants.{Some, None}
+use Rattle.std.specs.declared.result.Result.{Result}
+use Rattle.std.specs.declared.result.Result.the-variants.{Ok, Err}
+use Rattle.fields.specs.Questions.{first-no, carried}
+use Rattle.fields.proofs.Asked.{first-no-after, first-no-stop, carried-none, carried-some, some-none}
+use Rattle.month.specs.declared.fault.FileFault.{FileFault}
+use Rattle.month.specs.declared.fault.MonthFault.{MonthFault}
+use Rattle.month.specs.declared.fault.MonthFault.the-variants.{File}
+use Rattle.month.specs.declared.month.Month.{Month}
+use Rattle.month.specs.declared.statement.Statement.{Statement}
+use Rattle.month.specs.Asked.{month-asked}
+use Rattle.month.specs.Figures.{Figures}
+use Rattle.month.specs.Making as making
+use Rattle.month.specs.Stated.{stated}
+use Rattle.month.specs.Valid.{Valid}
+use Rattle.month.specs.View.{figures}
+use Rattle.month.proofs.Validity.{counted, yes-from-valid}
+use Rattle.monthfile.specs.Layout.{file-of}
+use Rattle.monthfile.specs.Questions.{file-asked, asked}
+use Rattle.monthfile.specs.Reading.{Accepted, Refused}
+use Rattle.monthfile.proofs.Exact.{file-same}
+use Rattle.monthfile.proofs.Sound.{asked-none}
+
+blank : Figures
+blank = record {
+  month = 0;
+  sources = [];
+  pilferage = 0;
+  transmission = record { cost = 0; taken = 0; passed = 0 };
+  energy = record { input = 0; substation = 0; feeder = 0 };
+  exempt = record { generation = 0; transmission = 0 };
+  brackets = [];
+  sales = record { nonlifeline = 0; rate = 0; metering = 0 };
+}
+
+module _ (file : List ℕ) where
+  pub refused-file : (e : FileFault) → first-no (file-asked file) ≡ Some e → Refused file (File e)
+  refused-file e is = record {
+    stated = blank;
+    states = λ none. absurd (some-none (sym is ∙ none));
+    first = first-no-stop (carried File (file-asked file)) (month-asked blank) (File e) (carried-some File (file-asked file) e is);
+  }
+
+  -- a sound file leaves the answer to the questions of the month
+  past-file : (f : Figures) → first-no (file-asked file) ≡ None → first-no (asked file f) ≡ first-no (month-asked f)
+  past-file f none = first-no-after (carried File (file-asked file)) (month-asked f) (carried-none File (file-asked file) none)
+
+  pub refused-month : (s : Statement) (e : MonthFault) → file ≡ file-of (stated s) → making.Refused s e → Refused file e
+  refused-month s e is refused = record {
+    stated = stated s;
+    states = λ _. record { counted = counted s; is = is };
+    first = past-file (stated s) (asked-none file (stated s) (counted s) is) ∙ refused .first;
+  }
+
+  pub accepted-month : (s : Statement) (m : Month) → file ≡ file-of (stated s) → making.Made s m → Accepted file m
+  accepted-month s m is made =
+      let same : stated s ≡ figures m = ap stated (sym (made .same)) in
+      record { valid = subst Valid same (made .valid); is = is ∙ ap file-of same }
+
+  -- the file of valid figures is read as those figures
+  pub every-read : (r : Result Month MonthFault) → Cases r (λ m. Accepted file m) (λ e. Refused file e) → (f : Figures) → Valid f → file ≡ file-of f → Cases r (λ m. figures m ≡ f) (λ e. ⊥)
+  every-read (Ok m) accepted f valid is = file-same (figures m) f (sym (accepted .is) ∙ is)
+  every-read (Err e) refused f valid is =
+      let none = asked-none file f (valid .counted) is in
+      let same = file-same (refused .stated) f (sym (refused .states none .is) ∙ is) in
+      some-none (sym (refused .first) ∙ past-file (refused .stated) none ∙ ap (λ g. first-no (month-asked g)) same ∙ yes-from-valid f valid)

@@ -1,0 +1,22 @@
+-- What writing a month leaves, and that it gives the file back from which the month was read. Assumes nothing.
+use mathlib.Core.Path.{_≡_, sym, ap, _∙_}
+use mathlib.Core.List.{List, _++_}
+use Prim.Native.Nat.{ℕ, _+_, _≤_}
+use native.Mathlib.Omega.{arith}
+use lib.ListN.{length, take, drop}
+use Rattle.std.proofs.shelf.Lists.{take-at}
+use Rattle.fields.specs.Places.{Laid}
+use Rattle.fields.proofs.Laying.{laid-first}
+use Rattle.month.specs.declared.month.Month.{Month}
+use Rattle.month.specs.View.{figures}
+use Rattle.monthfile.specs.Layout.{file-of}
+use Rattle.monthfile.specs.Reading.{Accepted}
+use Rattle.monthfile.specs.Writing.{Wrote, GaveBack}
+
+pub wrote : {before after file : List ℕ} {n : ℕ} → 1024 ≤ length before → Laid before after 0 file n → Wrote before after n file
+wrote {before} {after} {file} {n} room laid =
+    let count : n ≡ length file = omega (arith, laid .ends) in
+    record { room = room; count = count; written = laid-first laid ∙ ap (λ k. file ++ drop k before) (sym count) }
+
+pub gave-back : {before after : List ℕ} {n : ℕ} (m : Month) → Wrote before after n (file-of (figures m)) → GaveBack m after n
+gave-back {before} {after} {n} m w file accepted = ap (take n) (w .written) ∙ take-at (file-of (figures m)) (drop n before) n (sym (w .count)) ∙ sym (accepted .is)

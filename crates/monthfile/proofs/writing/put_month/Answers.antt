@@ -1,0 +1,14 @@
+use mathlib.Core.Path.{sym, ap, _∙_}
+use native.Mathlib.Omega.{arith}
+use lib.ListN.{length}
+use Rattle.fields.proofs.Laying.{laid-as, laid-field}
+use Rattle.fields.proofs.Numerals.{length-be}
+use Rattle.monthfile.proofs.writing.put_month.Needs as need
+
+pub returns : need.returns
+returns c =
+    let n = length-be 2 (c .args .month) in
+    record {
+      laid = laid-field (c .args .tag) 2 (c .head .ensures) (sym n) (c .put-bytes-next .ensures .laid) (laid-as (c .two-bytes .ensures) (c .put-bytes .ensures .laid));
+      next = omega (arith, c .put-bytes-next .ensures .next, c .put-bytes .ensures .next, ap length (c .head .ensures), ap length (c .two-bytes .ensures));
+    }
