@@ -1,10 +1,11 @@
 -- What the reader finds at a field's head. Assumes nothing.
 use mathlib.Core.Path.{_≡_, refl, sym, ap, subst, _∙_}
-use mathlib.Core.Bool.{true, false}
+use mathlib.Core.Bool.{Bool, true, false, cond}
 use mathlib.Core.List.{List, [], _∷_, _++_}
 use Prim.Native.Nat.{ℕ, _+_, _-_, _*_, _/_, _%_, _≤_, _<_}
 use native.Mathlib.Nat.{add-assoc, add-zero, sub-zero}
 use native.Mathlib.Omega.{arith}
+use lib.Dec.{eqb}
 use lib.ListN.{length, getD, take, drop, length-drop, take-append-drop}
 use Rattle.std.proofs.shelf.Bits.{div-mul-add, mod-mul-add}
 use Rattle.std.proofs.shelf.Lists.{take-rest, drop-drop, drop-more, getD-drop, length-take-le}
@@ -12,7 +13,7 @@ use Rattle.std.proofs.shelf.Tests.{le-leb, lt-leb, eq-eqb, ne-eqb}
 use Rattle.std.specs.declared.option.Option.the-variants.{Some, None}
 use Rattle.fields.specs.declared.fault.FieldFault.the-variants.{NoHead, WrongTag, WrongLength, CutShort}
 use Rattle.fields.specs.declared.due.Due.{Due}
-use Rattle.fields.specs.Heads.{field-asked, size-at, may, Took}
+use Rattle.fields.specs.Heads.{field-asked, size-at, may, next-byte, Took}
 use Rattle.fields.specs.Bytes.{field-of}
 use Rattle.fields.specs.Questions.{first-no}
 use Rattle.fields.proofs.Lengths.{parts-from-may}
@@ -87,3 +88,18 @@ module _ (bs : List ℕ) (p : ℕ) (d : Due) (whole : 3 ≤ length (rest-at bs p
             moved = omega arith;
             allowed = parts-from-may d _ (ap (may d) long ∙ way);
           })
+
+-- what the next byte tells of the end
+one-left : (b : Bool) (p at : ℕ) → Some p ≡ cond b None (Some at) → (b ≡ false) × (p ≡ at)
+one-left true p at e = absurd (grind arith)
+one-left false p at e = (refl, grind arith)
+
+none-left : (b : Bool) (at : ℕ) → None ≡ cond b None (Some at) → b ≡ true
+none-left true at e = refl
+none-left false at e = absurd (grind arith)
+
+pub byte-left : (bs : List ℕ) (at p : ℕ) → Some p ≡ next-byte bs at → (eqb at (length bs) ≡ false) × (p ≡ at)
+byte-left bs at p e = one-left (eqb at (length bs)) p at e
+
+pub no-byte-left : (bs : List ℕ) (at : ℕ) → None ≡ next-byte bs at → eqb at (length bs) ≡ true
+no-byte-left bs at e = none-left (eqb at (length bs)) at e

@@ -1,10 +1,11 @@
 -- What is asked of a field at an offset, and where reading it leads. Assumes nothing.
 use mathlib.Core.Path.{_≡_}
-use mathlib.Core.Bool.{Bool, true, _&&_}
+use mathlib.Core.Bool.{Bool, cond, _&&_}
 use mathlib.Core.List.{List, [], _∷_, _++_}
 use Prim.Native.Nat.{ℕ, _+_, _*_, _/_, _%_, _<_, _≤_}
 use lib.Dec.{leb, ltb, eqb}
 use lib.ListN.{length, getD, drop}
+use Rattle.std.specs.declared.option.Option.{Option}
 use Rattle.std.specs.declared.option.Option.the-variants.{Some, None}
 use Rattle.fields.specs.declared.due.Due.{Due}
 use Rattle.fields.specs.declared.fault.FieldFault.{FieldFault}
@@ -49,3 +50,7 @@ pub record Took (bs : List ℕ) (p q : ℕ) (d : Due) (value : List ℕ) : Type 
 pub record Stopped (bs : List ℕ) (p q : ℕ) (d : Due) (e : FieldFault) : Type 0 where
   pub asked : first-no (field-asked bs p d) ≡ Some e
   pub stays : q ≡ p
+
+-- the byte that follows at p, unless none does
+abbrev pub next-byte : List ℕ → ℕ → Option ℕ
+next-byte bs p = cond (eqb p (length bs)) None (Some p)

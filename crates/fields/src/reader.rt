@@ -1,11 +1,10 @@
 // Reads headed bytes in place, field after field.
 ghost use mathlib.Core.Path.{_≡_};
 ghost use Prim.Native.Nat.{_≤_};
-ghost use lib.Dec.{eqb};
 ghost use lib.ListN.{length};
 ghost use denote.Ref.{now};
 ghost use Rattle.std.specs.Results.{Cases};
-ghost use Rattle.fields.specs.Heads.{Took, Stopped};
+ghost use Rattle.fields.specs.Heads.{Took, Stopped, next-byte};
 use crate::due::Due;
 use crate::fault::FieldFault;
 
@@ -48,16 +47,14 @@ impl<'a> Reader<'a> {
         Ok(&rest[0..size])
     }
 
-    pub fn offset(&self) -> usize
-        ensures { λ r. ⌜ r ≡ now (self .entry) .at ⌝ }
+    // The offset of the next byte, unless none is left.
+    pub fn next_offset(&self) -> Option<usize>
+        ensures { λ r. ⌜ r ≡ next-byte (now (self .entry) .bytes .now) (now (self .entry) .at) ⌝ }
     {
-        self.at
-    }
-
-    // Whether no byte is left.
-    pub fn is_at_end(&self) -> bool
-        ensures { λ r. ⌜ r ≡ eqb (now (self .entry) .at) (length (now (self .entry) .bytes .now)) ⌝ }
-    {
-        self.at == self.bytes.len()
+        if self.at == self.bytes.len() {
+            None
+        } else {
+            Some(self.at)
+        }
     }
 }

@@ -14,13 +14,13 @@ pub fn head(tag: u8, size: u16) -> [u8; 3]
 pub fn two_bytes(n: u16) -> [u8; 2]
     ensures { λ r. ⌜ r ≡ be 2 n ⌝ }
 {
-    n.to_be_bytes()
+    u16::to_be_bytes(n)
 }
 
 pub fn eight_bytes(n: u64) -> [u8; 8]
     ensures { λ r. ⌜ r ≡ be 8 n ⌝ }
 {
-    n.to_be_bytes()
+    u64::to_be_bytes(n)
 }
 
 // Puts the bytes into the buffer from `at` on, and answers where they end; where they do not fit, nothing is written.

@@ -76,8 +76,8 @@ pub(crate) fn read_values<'a>(file: &'a [u8]) -> Result<Values<'a>, FileFault>
     for (i, due) in DUE.iter().enumerate() {
         values[i] = reader.field(*due)?;
     }
-    if !reader.is_at_end() {
-        return Err(FileFault::GoesOn(reader.offset()));
+    if let Some(at) = reader.next_offset() {
+        return Err(FileFault::GoesOn(at));
     }
     Ok(Values {
         month: values[0],

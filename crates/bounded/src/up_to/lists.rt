@@ -23,7 +23,7 @@ impl<T: Copy, const N: usize> UpTo<T, N> {
         ensures is { λ r. ⌜ r ≡ length (held (now (self .entry))) ⌝ }
         ensures most { λ r. ⌜ r ≤ N ⌝ }
     {
-        self.len
+        self.as_slice().len()
     }
 
     pub fn as_slice(&self) -> &[T]

@@ -1,4 +1,5 @@
 use mathlib.Core.Path.{_≡_, ap}
+use mathlib.Core.List.{[], _∷_, _++_}
 use Prim.Native.Nat.{_+_, _-_, _*_}
 use native.Mathlib.Omega.{arith}
 use lib.ListN.{length}
@@ -13,10 +14,12 @@ unreachable-requires g c κs = omega (arith, c .in-rest .ensures tt .cases .full
 
 pub loop-i-again : need.loop-i-again
 loop-i-again g c =
-    let items = c .in-Ok .ensures tt .cases .items in
+    let xs = held (c .loop-i .list) in
+    let ys = held (c .push .last .self) in
+    let items : ys ≡ xs ++ c .read-entry .result ∷ [] = c .in-Ok .ensures tt .cases .items in
     let i = c .loop-i .i in (
-      omega (arith, ap length items, length-push (held (c .loop-i .list)) (c .read-entry .result), c .loop-i .inv .0),
-      joined-step (bytes-by (g .E·Entry .numbers)) (c .args .part .now) _ _ _ (24 * i) (24 * i + 24 - 24 * i) (24 * (i + 1)) (c .read-entry .ensures) items (c .loop-i .inv .1) (omega arith),
+      omega (arith, ap length items, length-push xs (c .read-entry .result), c .loop-i .inv .0),
+      joined-step (bytes-by (g .E·Entry .numbers)) (c .args .part .now) xs ys _ (24 * i) (24 * i + 24 - 24 * i) (24 * (i + 1)) (c .read-entry .ensures) items (c .loop-i .inv .1) (omega arith),
     )
 
 pub returns : need.returns
