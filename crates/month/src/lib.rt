@@ -8,8 +8,14 @@ mod statement;
 mod sums;
 
 pub use fault::FileFault;
+pub use fault::FileFaultDebug;
+pub use fault::FileFaultEq;
+pub use fault::FileFaultPartialEq;
 pub use fault::FileFromField;
 pub use fault::MonthFault;
+pub use fault::MonthFaultDebug;
+pub use fault::MonthFaultEq;
+pub use fault::MonthFaultPartialEq;
 pub use fault::MonthFromFile;
 pub use month::Month;
 pub use parts::Bracket;

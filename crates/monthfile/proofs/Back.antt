@@ -16,7 +16,7 @@ use Rattle.monthfile.specs.Writing.{Wrote, GaveBack}
 pub wrote : {before after file : List ℕ} {n : ℕ} → 1024 ≤ length before → Laid before after 0 file n → Wrote before after n file
 wrote {before} {after} {file} {n} room laid =
     let count : n ≡ length file = omega (arith, laid .ends) in
-    record { room = room; count = count; written = laid-first laid ∙ ap (λ k. file ++ drop k before) (sym count) }
+    record { room = room; within = omega (arith, laid .fits); count = count; written = laid-first laid ∙ ap (λ k. file ++ drop k before) (sym count) }
 
 pub gave-back : {before after : List ℕ} {n : ℕ} (m : Month) → Wrote before after n (file-of (figures m)) → GaveBack m after n
 gave-back {before} {after} {n} m w file accepted = ap (take n) (w .written) ∙ take-at (file-of (figures m)) (drop n before) n (sym (w .count)) ∙ sym (accepted .is)

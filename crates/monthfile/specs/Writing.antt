@@ -10,6 +10,7 @@ use Rattle.monthfile.specs.Reading.{Accepted}
 -- the buffer has the file at its start, and past it what it had
 pub record Wrote (before after : List ℕ) (n : ℕ) (file : List ℕ) : Type 0 where
   pub room : 1024 ≤ length before
+  pub within : n ≤ length before
   pub count : n ≡ length file
   pub written : after ≡ file ++ drop n before
 
