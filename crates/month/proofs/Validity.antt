@@ -30,12 +30,12 @@ use Rattle.month.specs.View.{figures}
 use Rattle.month.proofs.Every.{all-from-every, every-from-all}
 
 -- three tests joined
-module _ (a b c : Bool) where
-  three-parts : (a && b && c) ≡ true → (a ≡ true) × (b ≡ true) × (c ≡ true)
-  three-parts e = let two = and-parts (a && b) c e in let one = and-parts a b (two .0) in (one .0, one .1, two .1)
+module _ (x y z : Bool) where
+  three-parts : (x && y && z) ≡ true → (x ≡ true) × (y ≡ true) × (z ≡ true)
+  three-parts e = let two = and-parts (x && y) z e in let one = and-parts x y (two .0) in (one .0, one .1, two .1)
 
-  three-from : a ≡ true → b ≡ true → c ≡ true → (a && b && c) ≡ true
-  three-from x y z = and-from (a && b) c (and-from a b x y) z
+  three-from : x ≡ true → y ≡ true → z ≡ true → (x && y && z) ≡ true
+  three-from ex ey ez = and-from (x && y) z (and-from x y ex ey) ez
 
 source-tells : (s : Source) → source-within s ≡ true → SourceWithin s
 source-tells s e =

@@ -22,7 +22,7 @@ use Rattle.month.specs.View.{figures}
 use Rattle.month.proofs.Validity.{counted, yes-from-valid}
 use Rattle.monthfile.specs.Layout.{file-of}
 use Rattle.monthfile.specs.Questions.{file-asked, asked}
-use Rattle.monthfile.specs.Reading.{Accepted, Refused}
+use Rattle.monthfile.specs.Reading.{States, Accepted, Refused}
 use Rattle.monthfile.proofs.Exact.{file-same}
 use Rattle.monthfile.proofs.Sound.{asked-none}
 
@@ -69,3 +69,23 @@ module _ (file : List ℕ) where
       let none = asked-none file f (valid .counted) is in
       let same = file-same (refused .stated) f (sym (refused .states none .is) ∙ is) in
       some-none (sym (refused .first) ∙ past-file (refused .stated) none ∙ ap (λ g. first-no (month-asked g)) same ∙ yes-from-valid f valid)
+
+  -- the first question of the month answered no comes back as it is
+  pub month-fault : (r : Result Month MonthFault) → Cases r (λ m. Accepted file m) (λ e. Refused file e) → (f : Figures) (e : MonthFault) → States file f → first-no (month-asked f) ≡ Some e → r ≡ Err e
+  month-fault (Ok m) accepted f e states is =
+      let same = file-same (figures m) f (sym (accepted .is) ∙ states .is) in
+      absurd (some-none (sym is ∙ ap (λ g. first-no (month-asked g)) (sym same) ∙ yes-from-valid (figures m) (accepted .valid)))
+  month-fault (Err d) refused f e states is =
+      let none = asked-none file f (states .counted) (states .is) in
+      let same = file-same (refused .stated) f (sym (refused .states none .is) ∙ states .is) in
+      let told : Some d ≡ Some e = sym (refused .first) ∙ past-file (refused .stated) none ∙ ap (λ g. first-no (month-asked g)) same ∙ is in
+      let whole : d ≡ e = cc in
+      ap (λ x. Err x) whole
+
+  -- and so does the first question of the file, inside a fault of the month
+  pub file-fault : (r : Result Month MonthFault) → Cases r (λ m. Accepted file m) (λ e. Refused file e) → (e : FileFault) → first-no (file-asked file) ≡ Some e → r ≡ Err (File e)
+  file-fault (Ok m) accepted e is = absurd (some-none (sym is ∙ asked-none file (figures m) (accepted .valid .counted) (accepted .is)))
+  file-fault (Err d) refused e is =
+      let told : Some d ≡ Some (File e) = sym (refused .first) ∙ first-no-stop (carried File (file-asked file)) (month-asked (refused .stated)) (File e) (carried-some File (file-asked file) e is) in
+      let whole : d ≡ File e = cc in
+      ap (λ x. Err x) whole

@@ -2,14 +2,17 @@
 ghost use mathlib.Core.Path.{_≡_};
 ghost use Rattle.std.specs.Results.{Cases};
 ghost use Rattle.std.specs.declared.option.Option.the-variants.{Some};
+ghost use Rattle.std.specs.declared.result.Result.the-variants.{Err};
 ghost use Rattle.fields.specs.Questions.{first-no};
+ghost use Rattle.month.specs.declared.fault.MonthFault.the-variants.{File};
+ghost use Rattle.month.specs.Asked.{month-asked};
 ghost use Rattle.month.specs.Figures.{Figures};
 ghost use Rattle.month.specs.Stated.{stated};
 ghost use Rattle.month.specs.Valid.{Valid};
 ghost use Rattle.month.specs.View.{figures};
 ghost use Rattle.monthfile.specs.Layout.{file-of};
 ghost use Rattle.monthfile.specs.Questions.{file-asked};
-ghost use Rattle.monthfile.specs.Reading.{Accepted, Refused};
+ghost use Rattle.monthfile.specs.Reading.{States, Accepted, Refused};
 use crate::entry::BracketEntry;
 use crate::entry::SalesEntry;
 use crate::entry::SourceEntry;
@@ -49,6 +52,8 @@ fn read_statement(file: &[u8]) -> Result<Statement, FileFault>
 pub fn read_month(file: &[u8]) -> Result<Month, MonthFault>
     ensures cases { λ r. ⌜ Cases r (λ m. Accepted (now (file .entry)) m) (λ e. Refused (now (file .entry)) e) ⌝ }
     ensures every { λ r. ⌜ ((f : Figures) → Valid f → now (file .entry) ≡ file-of f → Cases r (λ m. figures m ≡ f) (λ e. ⊥)) ⌝ }
+    ensures month_fault { λ r. ⌜ ((f : Figures) (e : MonthFault) → States (now (file .entry)) f → first-no (month-asked f) ≡ Some e → r ≡ Err e) ⌝ }
+    ensures file_fault { λ r. ⌜ ((e : FileFault) → first-no (file-asked (now (file .entry))) ≡ Some e → r ≡ Err (File e)) ⌝ }
 {
     Month::new(read_statement(file)?)
 }

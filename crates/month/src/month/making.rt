@@ -12,8 +12,10 @@ impl Month {
     pub fn new(statement: Statement) -> Result<Month, MonthFault>
         ensures { λ r. ⌜ Cases r (λ m. Made statement m) (λ e. Refused statement e) ⌝ }
     {
-        first_no(&statement.limits())?;
-        first_no(&statement.rules())?;
+        let limits = statement.limits();
+        first_no(&limits)?;
+        let rules = statement.rules();
+        first_no(&rules)?;
         Ok(Month { statement })
     }
 
