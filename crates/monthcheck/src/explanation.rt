@@ -15,7 +15,8 @@ pub(crate) impl fmt::Display for Explanation as ExplanationDisplay {
                 write!(f, "The file goes on at byte {at}, after its last field.")
             }
             MonthFault::OutsideLimit(tag) => {
-                write!(f, "A number in field {tag} is outside its limit.")
+                let limit = limit_of(tag);
+                write!(f, "A number in field {tag} is outside its limit: {limit}.")
             }
             MonthFault::PassedOn(tag) => {
                 write!(f, "In field {tag} a discount passed on is above the discount taken.")
@@ -24,10 +25,15 @@ pub(crate) impl fmt::Display for Explanation as ExplanationDisplay {
                 write!(f, "The source costs in field {tag} sum to more than 5000000000 centavos.")
             }
             MonthFault::BelowZero(tag) => {
-                write!(f, "The cost to recover by field {tag} is below zero.")
+                let cost = cost_of(tag);
+                write!(f, "{cost} is below zero, after recoveries and half the discount kept.")
             }
-            MonthFault::EnergyFigures(tag) => explain_energy(tag, f),
-            MonthFault::SalesFigures(tag) => explain_sales(tag, f),
+            MonthFault::EnergyFigures(tag) => {
+                write!(f, "In field {tag} A + F is more than half of I, or X or Y is not below I.")
+            }
+            MonthFault::SalesFigures(tag) => {
+                write!(f, "In field {tag} N is 0, or all sales S are more than I - X or I - Y.")
+            }
         }
     }
 }
@@ -49,16 +55,19 @@ fn explain_field<W: fmt::Write>(fault: FieldFault, f: &mut fmt::Formatter<W>) ->
     }
 }
 
-fn explain_energy<W: fmt::Write>(tag: u8, f: &mut fmt::Formatter<W>) -> fmt::Result {
-    write!(
-        f,
-        "In field {tag} the losses are more than half the input, or no input is left that is charged generation or transmission."
-    )
+fn limit_of(tag: u8) -> &'static str {
+    match tag {
+        1 => "the month is 1 to 36",
+        2..=4 => "amounts go up to 5000000000 centavos",
+        5 => "energy goes up to 10000000 kWh",
+        6 => "a bracket has up to 10000000 kWh, 1000000 customers and 100 percent",
+        _ => "N goes up to 10000000 kWh, R and M go up to 1000000 units",
+    }
 }
 
-fn explain_sales<W: fmt::Write>(tag: u8, f: &mut fmt::Formatter<W>) -> fmt::Result {
-    write!(
-        f,
-        "In field {tag} no kWh are sold outside the brackets, or all sales are more than the input charged generation or transmission."
-    )
+fn cost_of(tag: u8) -> &'static str {
+    match tag {
+        2 => "The cost of generation G",
+        _ => "The cost of transmission T",
+    }
 }
