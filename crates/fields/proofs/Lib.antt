@@ -1,8 +1,8 @@
 pub mod Asked
-pub mod Laying
+pub mod Heads
 pub mod Lengths
 pub mod Numerals
-pub mod Rows
-pub mod Taking
+pub mod Present
 pub mod Rooms
-pub mod There
+pub mod Rows
+pub mod Writes

@@ -9,7 +9,7 @@ abbrev pub put-at : List ℕ → ℕ → List ℕ → List ℕ
 put-at before at bs = take at before ++ (bs ++ drop (at + length bs) before)
 
 -- bs was put at `at` and ends at `next`
-pub record Laid (before after : List ℕ) (at : ℕ) (bs : List ℕ) (next : ℕ) : Type 0 where
+pub record Written (before after : List ℕ) (at : ℕ) (bs : List ℕ) (next : ℕ) : Type 0 where
   pub fits : at + length bs ≤ length before
   pub ends : next ≡ at + length bs
   pub becomes : after ≡ put-at before at bs

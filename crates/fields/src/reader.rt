@@ -26,7 +26,7 @@ impl<'a> Reader<'a> {
 
     // The value of the due field, past which the reader then stands; it stays where it is at a fault.
     pub fn field(&mut self, due: Due) -> Result<&'a [u8], FieldFault>
-        ensures kept { λ _. ⌜ now (self .exit) .bytes .now ≡ now (self .entry) .bytes .now ⌝ }
+        ensures same_bytes { λ _. ⌜ now (self .exit) .bytes .now ≡ now (self .entry) .bytes .now ⌝ }
         ensures cases { λ r. ⌜ Cases r (λ v. Took (now (self .entry) .bytes .now) (now (self .entry) .at) (now (self .exit) .at) due (v .now)) (λ e. Stopped (now (self .entry) .bytes .now) (now (self .entry) .at) (now (self .exit) .at) due e) ⌝ }
     {
         let at = self.at;

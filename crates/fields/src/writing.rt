@@ -2,7 +2,7 @@
 ghost use mathlib.Core.Path.{_≡_};
 ghost use Rattle.std.specs.Options.{Cases as BySome};
 ghost use Rattle.fields.specs.Bytes.{be, head-of};
-ghost use Rattle.fields.specs.Places.{Laid, NoRoom};
+ghost use Rattle.fields.specs.Places.{Written, NoRoom};
 
 // A field's tag and the length of its value.
 pub fn head(tag: u8, size: u16) -> [u8; 3]
@@ -25,7 +25,7 @@ pub fn eight_bytes(n: u64) -> [u8; 8]
 
 // Puts the bytes into the buffer from `at` on, and answers where they end; where they do not fit, nothing is written.
 pub fn put(buffer: &mut [u8], at: usize, bytes: &[u8]) -> Option<usize>
-    ensures { λ r. ⌜ BySome r (NoRoom (now (buffer .entry)) (now (buffer .exit)) at (now (bytes .entry))) (λ next. Laid (now (buffer .entry)) (now (buffer .exit)) at (now (bytes .entry)) next) ⌝ }
+    ensures { λ r. ⌜ BySome r (NoRoom (now (buffer .entry)) (now (buffer .exit)) at (now (bytes .entry))) (λ next. Written (now (buffer .entry)) (now (buffer .exit)) at (now (bytes .entry)) next) ⌝ }
 {
     let length = buffer.len();
     if at > length || length - at < bytes.len() {

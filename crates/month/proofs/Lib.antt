@@ -1,4 +1,4 @@
 pub mod Every
+pub mod Percents
 pub mod Running
 pub mod Validity
-pub mod Percents

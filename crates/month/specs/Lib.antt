@@ -1,9 +1,9 @@
-pub mod Figures
-pub mod Stated
-pub mod View
 pub mod Amounts
 pub mod Asked
 pub mod Bounds
-pub mod Valid
+pub mod Figures
 pub mod Making
 pub mod Refusals
+pub mod Stated
+pub mod Valid
+pub mod View

@@ -10,8 +10,8 @@ use crate::hex::decode;
 use crate::outcome::outcome_of;
 use crate::prefixes::print_prefixes;
 use std::error::AnyError;
-use std::io::BufReader;
 use std::io::BufRead;
+use std::io::BufReader;
 
 fn print_case(rt: &LibcRuntime, name: &str, digits: &str) -> Result<(), AnyError> {
     let file = decode(rt.alloc(), digits)?;

@@ -19,20 +19,35 @@ pub(crate) impl fmt::Display for Explanation as ExplanationDisplay {
                 write!(f, "A number in field {tag} is outside its limit: {limit}.")
             }
             MonthFault::PassedOn(tag) => {
-                write!(f, "In field {tag} a discount passed on is above the discount taken.")
+                write!(
+                    f,
+                    "In field {tag} a discount passed on is above the discount taken."
+                )
             }
             MonthFault::SourceCosts(tag) => {
-                write!(f, "The source costs in field {tag} sum to more than 5000000000 centavos.")
+                write!(
+                    f,
+                    "The source costs in field {tag} sum to more than 5000000000 centavos."
+                )
             }
             MonthFault::BelowZero(tag) => {
                 let cost = cost_of(tag);
-                write!(f, "{cost} is below zero, after recoveries and half the discount kept.")
+                write!(
+                    f,
+                    "{cost} is below zero, after recoveries and half the discount kept."
+                )
             }
             MonthFault::EnergyFigures(tag) => {
-                write!(f, "In field {tag} A + F is more than half of I, or X or Y is not below I.")
+                write!(
+                    f,
+                    "In field {tag} A + F is more than half of I, or X or Y is not below I."
+                )
             }
             MonthFault::SalesFigures(tag) => {
-                write!(f, "In field {tag} N is 0, or all sales S are more than I - X or I - Y.")
+                write!(
+                    f,
+                    "In field {tag} N is 0, or all sales S are more than I - X or I - Y."
+                )
             }
         }
     }
@@ -41,16 +56,28 @@ pub(crate) impl fmt::Display for Explanation as ExplanationDisplay {
 fn explain_field<W: fmt::Write>(fault: FieldFault, f: &mut fmt::Formatter<W>) -> fmt::Result {
     match fault {
         FieldFault::NoHead(at) => {
-            write!(f, "At byte {at} a field is due, and its tag and length are not all there.")
+            write!(
+                f,
+                "At byte {at} a field is due, and its tag and length are not all there."
+            )
         }
         FieldFault::WrongTag(at) => {
-            write!(f, "The field at byte {at} has another tag than the one due.")
+            write!(
+                f,
+                "The field at byte {at} has another tag than the one due."
+            )
         }
         FieldFault::WrongLength(at) => {
-            write!(f, "The field at byte {at} may not have the length that it states.")
+            write!(
+                f,
+                "The field at byte {at} may not have the length that it states."
+            )
         }
         FieldFault::CutShort(at) => {
-            write!(f, "The file ends before the value of the field at byte {at} does.")
+            write!(
+                f,
+                "The file ends before the value of the field at byte {at} does."
+            )
         }
     }
 }

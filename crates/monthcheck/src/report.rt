@@ -41,9 +41,7 @@ fn print_costs(rt: &impl Print, statement: &Statement) -> io::Result<()> {
     println!(
         rt,
         "transmission: cost {}, discount taken {}, passed on {} (centavos)",
-        transmission.cost,
-        transmission.taken,
-        transmission.passed
+        transmission.cost, transmission.taken, transmission.passed
     )
 }
 
@@ -51,10 +49,22 @@ fn print_energy(rt: &impl Print, statement: &Statement) -> io::Result<()> {
     let energy = statement.energy;
     let exempt = statement.exempt;
     println!(rt, "input I: {} kWh", energy.input)?;
-    println!(rt, "sub-transmission and substation loss A: {} kWh", energy.substation)?;
+    println!(
+        rt,
+        "sub-transmission and substation loss A: {} kWh",
+        energy.substation
+    )?;
     println!(rt, "feeder loss F: {} kWh", energy.feeder)?;
-    println!(rt, "input charged no generation X: {} kWh", exempt.generation)?;
-    println!(rt, "input charged no transmission Y: {} kWh", exempt.transmission)
+    println!(
+        rt,
+        "input charged no generation X: {} kWh",
+        exempt.generation
+    )?;
+    println!(
+        rt,
+        "input charged no transmission Y: {} kWh",
+        exempt.transmission
+    )
 }
 
 fn print_sales(rt: &impl Print, statement: &Statement) -> io::Result<()> {
@@ -71,12 +81,28 @@ fn print_sales(rt: &impl Print, statement: &Statement) -> io::Result<()> {
     let sales = statement.sales;
     println!(rt, "non-lifeline sales N: {} kWh", sales.nonlifeline)?;
     println!(rt, "full rate R: {} units per kWh", sales.rate)?;
-    println!(rt, "metering charge M: {} units per customer", sales.metering)
+    println!(
+        rt,
+        "metering charge M: {} units per customer",
+        sales.metering
+    )
 }
 
 fn print_amounts(rt: &impl Print, month: &Month) -> io::Result<()> {
-    println!(rt, "cost of generation G: {}", Units(month.generation_cost()))?;
-    println!(rt, "cost of transmission T: {}", Units(month.transmission_cost()))?;
+    println!(
+        rt,
+        "cost of generation G: {}",
+        Units(month.generation_cost())
+    )?;
+    println!(
+        rt,
+        "cost of transmission T: {}",
+        Units(month.transmission_cost())
+    )?;
     println!(rt, "sales S: {} kWh", month.sales())?;
-    println!(rt, "lifeline discount D: {}", Units(month.lifeline_discount()))
+    println!(
+        rt,
+        "lifeline discount D: {}",
+        Units(month.lifeline_discount())
+    )
 }

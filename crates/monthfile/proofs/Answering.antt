@@ -63,9 +63,9 @@ module _ (file : List ℕ) where
       record { valid = subst Valid same (made .valid); is = is ∙ ap file-of same }
 
   -- the file of valid figures is read as those figures
-  pub every-read : (r : Result Month MonthFault) → Cases r (λ m. Accepted file m) (λ e. Refused file e) → (f : Figures) → Valid f → file ≡ file-of f → Cases r (λ m. figures m ≡ f) (λ e. ⊥)
-  every-read (Ok m) accepted f valid is = file-same (figures m) f (sym (accepted .is) ∙ is)
-  every-read (Err e) refused f valid is =
+  pub valid-file : (r : Result Month MonthFault) → Cases r (λ m. Accepted file m) (λ e. Refused file e) → (f : Figures) → Valid f → file ≡ file-of f → Cases r (λ m. figures m ≡ f) (λ e. ⊥)
+  valid-file (Ok m) accepted f valid is = file-same (figures m) f (sym (accepted .is) ∙ is)
+  valid-file (Err e) refused f valid is =
       let none = asked-none file f (valid .counted) is in
       let same = file-same (refused .stated) f (sym (refused .states none .is) ∙ is) in
       some-none (sym (refused .first) ∙ past-file (refused .stated) none ∙ ap (λ g. first-no (month-asked g)) same ∙ yes-from-valid f valid)

@@ -15,16 +15,16 @@ use Rattle.month.specs.declared.parts.Bracket.{Bracket}
 use Rattle.month.specs.declared.parts.Sales.{Sales}
 use Rattle.month.specs.Figures.{Figures}
 use Rattle.monthfile.specs.Layout.{source-numbers, energy-numbers, bracket-numbers, sales-numbers, bytes-by, values, file-of}
-use Rattle.monthfile.specs.Values.{Stand}
+use Rattle.monthfile.specs.Values.{MadeOf}
 use Rattle.monthfile.proofs.Lengths.{length-entry}
 
 -- the file of these figures, from its values
 pub whole-file :
-    {file m s p t e b l : List ℕ} → Stand file m s p t e b l → (f : Figures) → m ≡ be 2 (f .month) → s ≡ joined (bytes-by source-numbers) (f .sources) → p ≡ eights (f .pilferage ∷ []) → t ≡ bytes-by source-numbers (f .transmission) →
+    {file m s p t e b l : List ℕ} → MadeOf file m s p t e b l → (f : Figures) → m ≡ be 2 (f .month) → s ≡ joined (bytes-by source-numbers) (f .sources) → p ≡ eights (f .pilferage ∷ []) → t ≡ bytes-by source-numbers (f .transmission) →
     e ≡ eights (energy-numbers (f .energy) (f .exempt)) → b ≡ joined (bytes-by bracket-numbers) (f .brackets) → l ≡ bytes-by sales-numbers (f .sales) → file ≡ file-of f
-whole-file {m = m} {s = s} {p = p} {t = t} {e = e} {b = b} {l = l} stand f em es ep et ee eb el =
+whole-file {m = m} {s = s} {p = p} {t = t} {e = e} {b = b} {l = l} made-of f em es ep et ee eb el =
     let same : m ∷ s ∷ p ∷ t ∷ e ∷ b ∷ l ∷ [] ≡ values f = cc in
-    stand .whole ∙ ap (fields-of 1) same
+    made-of .whole ∙ ap (fields-of 1) same
 
 source-same : (x y : Source) → source-numbers x ≡ source-numbers y → x ≡ y
 source-same x y n =

@@ -1,6 +1,6 @@
-pub mod Back
+pub mod Answering
 pub mod Exact
 pub mod Lengths
-pub mod Passing
+pub mod Progress
 pub mod Sound
-pub mod Answering
+pub mod WrittenBack

@@ -13,7 +13,7 @@ use Rattle.fields.specs.Questions.{first-no, carried}
 use Rattle.fields.proofs.Asked.{first-no-after, carried-none}
 use Rattle.fields.proofs.Numerals.{length-be}
 use Rattle.fields.proofs.Rows.{length-eights}
-use Rattle.fields.proofs.There.{field-there, past-there}
+use Rattle.fields.proofs.Present.{field-present, past-present}
 use Rattle.month.specs.declared.fault.FileFault.the-variants.{Field}
 use Rattle.month.specs.Figures.{Figures, Counted}
 use Rattle.monthfile.specs.Layout.{source-numbers, energy-numbers, bracket-numbers, sales-numbers, values, file-of}
@@ -35,8 +35,8 @@ all-there file pre tag (d ∷ ds) (v ∷ vs) h is =
     let rest = fields-of (tag + 1) vs in
     let here : file ≡ pre ++ (field-of (d .tag) v ++ rest) = is ∙ ap (λ t. pre ++ (field-of t v ++ rest)) (sym (h .0)) in
     let next : file ≡ (pre ++ field-of (d .tag) v) ++ rest = here ∙ sym (append-assoc pre (field-of (d .tag) v) rest) in
-    first-no-after (carried Field (field-asked file (length pre) d)) (asked-from file (length pre + 3 + size-at file (length pre)) ds) (carried-none Field (field-asked file (length pre) d) (field-there file pre v rest d here (h .1)))
-    ∙ ap (λ p. first-no (asked-from file p ds)) (past-there file pre v rest d here (h .1))
+    first-no-after (carried Field (field-asked file (length pre) d)) (asked-from file (length pre + 3 + size-at file (length pre)) ds) (carried-none Field (field-asked file (length pre) d) (field-present file pre v rest d here (h .1)))
+    ∙ ap (λ p. first-no (asked-from file p ds)) (past-present file pre v rest d here (h .1))
     ∙ all-there file (pre ++ field-of (d .tag) v) (tag + 1) ds vs (h .2) next
 
 parts-of : (d : Due) (n k : ℕ) → n ≡ d .each * k → 0 < d .each → d .least ≤ k → k ≤ d .most → Parts d n

@@ -1,5 +1,5 @@
 pub mod Layout
 pub mod Questions
-pub mod Values
 pub mod Reading
+pub mod Values
 pub mod Writing

@@ -6,7 +6,7 @@ use lib.ListN.{length}
 use Rattle.fields.specs.Bytes.{fields-of}
 
 -- the file has fields with these values, of lengths that are allowed, and nothing else
-pub record Stand (file month sources pilferage transmission energy brackets sales : List ℕ) : Type 0 where
+pub record MadeOf (file month sources pilferage transmission energy brackets sales : List ℕ) : Type 0 where
   pub whole : file ≡ fields-of 1 (month ∷ sources ∷ pilferage ∷ transmission ∷ energy ∷ brackets ∷ sales ∷ [])
   pub month-long : length month ≡ 2
   pub sources-whole : length sources % 24 ≡ 0

@@ -4,7 +4,7 @@ ghost use Rattle.std.specs.Results.{Cases};
 ghost use Rattle.std.specs.declared.option.Option.the-variants.{Some};
 ghost use Rattle.fields.specs.Questions.{first-no};
 ghost use Rattle.monthfile.specs.Questions.{file-asked};
-ghost use Rattle.monthfile.specs.Values.{Stand};
+ghost use Rattle.monthfile.specs.Values.{MadeOf};
 use fields::Due;
 use fields::Reader;
 use month::FileFault;
@@ -69,7 +69,7 @@ pub(crate) struct Values<'a> {
 
 // The values of a file that is made of these fields and nothing else.
 pub(crate) fn read_values<'a>(file: &'a [u8]) -> Result<Values<'a>, FileFault>
-    ensures { λ r. ⌜ Cases r (λ v. Stand (now (file .entry)) (v .month .now) (v .sources .now) (v .pilferage .now) (v .transmission .now) (v .energy .now) (v .brackets .now) (v .sales .now)) (λ e. first-no (file-asked (now (file .entry))) ≡ Some e) ⌝ }
+    ensures { λ r. ⌜ Cases r (λ v. MadeOf (now (file .entry)) (v .month .now) (v .sources .now) (v .pilferage .now) (v .transmission .now) (v .energy .now) (v .brackets .now) (v .sales .now)) (λ e. first-no (file-asked (now (file .entry))) ≡ Some e) ⌝ }
 {
     let mut reader = Reader::new(file);
     let mut values = [file; 7];

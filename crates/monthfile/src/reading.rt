@@ -51,7 +51,7 @@ fn read_statement(file: &[u8]) -> Result<Statement, FileFault>
 // The month that the file states, or the first question of 1 to 11 that is answered no.
 pub fn read_month(file: &[u8]) -> Result<Month, MonthFault>
     ensures cases { λ r. ⌜ Cases r (λ m. Accepted (now (file .entry)) m) (λ e. Refused (now (file .entry)) e) ⌝ }
-    ensures every { λ r. ⌜ ((f : Figures) → Valid f → now (file .entry) ≡ file-of f → Cases r (λ m. figures m ≡ f) (λ e. ⊥)) ⌝ }
+    ensures valid_file { λ r. ⌜ ((f : Figures) → Valid f → now (file .entry) ≡ file-of f → Cases r (λ m. figures m ≡ f) (λ e. ⊥)) ⌝ }
     ensures month_fault { λ r. ⌜ ((f : Figures) (e : MonthFault) → States (now (file .entry)) f → first-no (month-asked f) ≡ Some e → r ≡ Err e) ⌝ }
     ensures file_fault { λ r. ⌜ ((e : FileFault) → first-no (file-asked (now (file .entry))) ≡ Some e → r ≡ Err (File e)) ⌝ }
 {

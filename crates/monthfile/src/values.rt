@@ -18,9 +18,7 @@ pub(crate) fn whole_number(part: &[u8]) -> u64
     requires { ⌜ length (now part) ≤ 8 ⌝ }
     ensures { λ r. ⌜ now (part .entry) ≡ be (length (now (part .entry))) r ⌝ }
 {
-    let Some(n) = number(part) else {
-        unreachable()
-    };
+    let Some(n) = number(part) else { unreachable() };
     n
 }
 

@@ -5,7 +5,7 @@ ghost use lib.ListN.{length};
 ghost use Rattle.std.specs.Joined.{joined};
 ghost use Rattle.std.specs.Results.{Cases};
 ghost use Rattle.fields.specs.Bytes.{be, eights, field-of};
-ghost use Rattle.fields.specs.Places.{Laid};
+ghost use Rattle.fields.specs.Places.{Written};
 ghost use Rattle.month.specs.Stated.{stated};
 ghost use Rattle.month.specs.View.{figures};
 ghost use Rattle.monthfile.specs.Layout.{bytes-by, file-of};
@@ -26,7 +26,7 @@ use month::Statement;
 // Puts bytes for which there is room.
 fn put_bytes(buffer: &mut [u8], at: usize, bytes: &[u8]) -> usize
     requires { ⌜ at + length (now bytes) ≤ length (now buffer) ⌝ }
-    ensures laid { λ r. ⌜ Laid (now (buffer .entry)) (now (buffer .exit)) at (now (bytes .entry)) r ⌝ }
+    ensures written { λ r. ⌜ Written (now (buffer .entry)) (now (buffer .exit)) at (now (bytes .entry)) r ⌝ }
     ensures next { λ r. ⌜ r ≡ at + length (now (bytes .entry)) ⌝ }
 {
     let Some(next) = put(buffer, at, bytes) else {
@@ -37,7 +37,7 @@ fn put_bytes(buffer: &mut [u8], at: usize, bytes: &[u8]) -> usize
 
 fn put_numbers(buffer: &mut [u8], at: usize, numbers: &[u64]) -> usize
     requires { ⌜ at + 8 * length (now numbers) ≤ length (now buffer) ⌝ }
-    ensures laid { λ r. ⌜ Laid (now (buffer .entry)) (now (buffer .exit)) at (eights (now (numbers .entry))) r ⌝ }
+    ensures written { λ r. ⌜ Written (now (buffer .entry)) (now (buffer .exit)) at (eights (now (numbers .entry))) r ⌝ }
     ensures next { λ r. ⌜ r ≡ at + 8 * length (now (numbers .entry)) ⌝ }
 {
     let mut next = at;
@@ -49,7 +49,7 @@ fn put_numbers(buffer: &mut [u8], at: usize, numbers: &[u64]) -> usize
 
 fn put_entries<E: Entry>(buffer: &mut [u8], at: usize, entries: &[E]) -> usize
     requires { ⌜ at + 24 * length (now entries) ≤ length (now buffer) ⌝ }
-    ensures laid { λ r. ⌜ Laid (now (buffer .entry)) (now (buffer .exit)) at (joined (bytes-by numbers) (now (entries .entry))) r ⌝ }
+    ensures written { λ r. ⌜ Written (now (buffer .entry)) (now (buffer .exit)) at (joined (bytes-by numbers) (now (entries .entry))) r ⌝ }
     ensures next { λ r. ⌜ r ≡ at + 24 * length (now (entries .entry)) ⌝ }
 {
     let mut next = at;
@@ -63,7 +63,7 @@ fn put_entries<E: Entry>(buffer: &mut [u8], at: usize, entries: &[E]) -> usize
 fn put_month(buffer: &mut [u8], at: usize, tag: u8, month: u64) -> usize
     requires room { ⌜ at + 5 ≤ length (now buffer) ⌝ }
     requires small { ⌜ month < 65536 ⌝ }
-    ensures laid { λ r. ⌜ Laid (now (buffer .entry)) (now (buffer .exit)) at (field-of tag (be 2 month)) r ⌝ }
+    ensures written { λ r. ⌜ Written (now (buffer .entry)) (now (buffer .exit)) at (field-of tag (be 2 month)) r ⌝ }
     ensures next { λ r. ⌜ r ≡ at + 5 ⌝ }
 {
     let next = put_bytes(buffer, at, &head(tag, 2));
@@ -74,7 +74,7 @@ fn put_month(buffer: &mut [u8], at: usize, tag: u8, month: u64) -> usize
 fn put_field(buffer: &mut [u8], at: usize, tag: u8, numbers: &[u64]) -> usize
     requires room { ⌜ at + 3 + 8 * length (now numbers) ≤ length (now buffer) ⌝ }
     requires few { ⌜ length (now numbers) ≤ 5 ⌝ }
-    ensures laid { λ r. ⌜ Laid (now (buffer .entry)) (now (buffer .exit)) at (field-of tag (eights (now (numbers .entry)))) r ⌝ }
+    ensures written { λ r. ⌜ Written (now (buffer .entry)) (now (buffer .exit)) at (field-of tag (eights (now (numbers .entry)))) r ⌝ }
     ensures next { λ r. ⌜ r ≡ at + 3 + 8 * length (now (numbers .entry)) ⌝ }
 {
     let next = put_bytes(buffer, at, &head(tag, 8 * numbers.len() as u16));
@@ -85,7 +85,7 @@ fn put_field(buffer: &mut [u8], at: usize, tag: u8, numbers: &[u64]) -> usize
 fn put_list<E: Entry>(buffer: &mut [u8], at: usize, tag: u8, entries: &[E]) -> usize
     requires room { ⌜ at + 3 + 24 * length (now entries) ≤ length (now buffer) ⌝ }
     requires few { ⌜ length (now entries) ≤ 8 ⌝ }
-    ensures laid { λ r. ⌜ Laid (now (buffer .entry)) (now (buffer .exit)) at (field-of tag (joined (bytes-by numbers) (now (entries .entry)))) r ⌝ }
+    ensures written { λ r. ⌜ Written (now (buffer .entry)) (now (buffer .exit)) at (field-of tag (joined (bytes-by numbers) (now (entries .entry)))) r ⌝ }
     ensures next { λ r. ⌜ r ≡ at + 3 + 24 * length (now (entries .entry)) ⌝ }
 {
     let next = put_bytes(buffer, at, &head(tag, 24 * entries.len() as u16));
@@ -96,7 +96,7 @@ fn put_list<E: Entry>(buffer: &mut [u8], at: usize, tag: u8, entries: &[E]) -> u
 fn put_file(buffer: &mut [u8], statement: &Statement) -> usize
     requires room { ⌜ 1024 ≤ length (now buffer) ⌝ }
     requires small { ⌜ now statement .month < 65536 ⌝ }
-    ensures { λ r. ⌜ Laid (now (buffer .entry)) (now (buffer .exit)) 0 (file-of (stated (now (statement .entry)))) r ⌝ }
+    ensures { λ r. ⌜ Written (now (buffer .entry)) (now (buffer .exit)) 0 (file-of (stated (now (statement .entry)))) r ⌝ }
 {
     let energy = statement.energy;
     let exempt = statement.exempt;

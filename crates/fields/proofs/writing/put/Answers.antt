@@ -1,6 +1,6 @@
 use mathlib.Core.Path.{refl}
 use native.Mathlib.Omega.{arith}
-use Rattle.fields.proofs.Laying.{put-mid}
+use Rattle.fields.proofs.Writes.{put-mid}
 use Rattle.fields.proofs.writing.put.Needs as need
 
 pub returns : need.returns

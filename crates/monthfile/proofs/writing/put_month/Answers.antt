@@ -1,7 +1,7 @@
 use mathlib.Core.Path.{sym, ap, _∙_}
 use native.Mathlib.Omega.{arith}
 use lib.ListN.{length}
-use Rattle.fields.proofs.Laying.{laid-as, laid-field}
+use Rattle.fields.proofs.Writes.{written-as, written-field}
 use Rattle.fields.proofs.Numerals.{length-be}
 use Rattle.monthfile.proofs.writing.put_month.Needs as need
 
@@ -9,6 +9,6 @@ pub returns : need.returns
 returns c =
     let n = length-be 2 (c .args .month) in
     record {
-      laid = laid-field (c .args .tag) 2 (c .head .ensures) (sym n) (c .put-bytes-next .ensures .laid) (laid-as (c .two-bytes .ensures) (c .put-bytes .ensures .laid));
+      written = written-field (c .args .tag) 2 (c .head .ensures) (sym n) (c .put-bytes-next .ensures .written) (written-as (c .two-bytes .ensures) (c .put-bytes .ensures .written));
       next = omega (arith, c .put-bytes-next .ensures .next, c .put-bytes .ensures .next, ap length (c .head .ensures), ap length (c .two-bytes .ensures));
     }

@@ -2,12 +2,12 @@ use mathlib.Core.Path.{_≡_, refl, ap, subst}
 use native.Mathlib.Omega.{arith}
 use lib.ListN.{length}
 use Rattle.std.proofs.shelf.Results.{err-from-errBy}
-use Rattle.fields.proofs.Laying.{laid-as}
+use Rattle.fields.proofs.Writes.{written-as}
 use Rattle.fields.proofs.Rooms.{room-there, no-room}
 use Rattle.month.specs.Stated.{stated}
 use Rattle.month.proofs.Validity.{month-valid}
 use Rattle.monthfile.specs.Layout.{file-of}
-use Rattle.monthfile.proofs.Back.{wrote, gave-back}
+use Rattle.monthfile.proofs.WrittenBack.{wrote, gave-back}
 use Rattle.monthfile.proofs.writing.write_month.Needs as need
 
 pub put-file-requires : need.put-file-requires
@@ -25,5 +25,5 @@ returns-in-Break-ask-room c =
 pub returns : need.returns
 returns c =
     let room = room-there (length (c .args .buffer .now)) (c .in-Continue-ask-room .ensures tt) in
-    let written = wrote room (laid-as (ap (λ s. file-of (stated s)) (c .statement .ensures)) (c .put-file .ensures)) in
+    let written = wrote room (written-as (ap (λ s. file-of (stated s)) (c .statement .ensures)) (c .put-file .ensures)) in
     record { cases = written; gives-back = gave-back (c .args .month .now) written }

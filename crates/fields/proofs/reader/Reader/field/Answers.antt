@@ -1,28 +1,28 @@
 use mathlib.Core.Path.{sym, _∙_}
 use borrow.Author.Needs.{needs}
-use Rattle.fields.proofs.Taking.{wrong-tag, wrong-length, cut-short, in-file, took}
+use Rattle.fields.proofs.Heads.{wrong-tag, wrong-length, cut-short, in-file, took}
 use Rattle.fields.proofs.reader.Reader.field.Needs as need
 
 pub returns-then-tag-due : need.returns-then-tag-due
 returns-then-tag-due c = record {
-  kept = search needs;
+  same-bytes = search needs;
   cases = record { asked = wrong-tag _ _ _ (search needs) (c .if-tag-due .taken); stays = search needs };
 }
 
 pub returns-then-not-allows : need.returns-then-not-allows
 returns-then-not-allows c = record {
-  kept = search needs;
+  same-bytes = search needs;
   cases = record { asked = wrong-length _ _ _ (search needs) _ _ (c .if-tag-due .left) (c .from .ensures) (c .from-2 .ensures) (sym (c .if-not-allows .ensures tt .is)); stays = search needs };
 }
 
 pub returns-then-rest-size : need.returns-then-rest-size
 returns-then-rest-size c = record {
-  kept = search needs;
+  same-bytes = search needs;
   cases = record { asked = cut-short _ _ _ (search needs) _ _ (c .if-tag-due .left) (c .from .ensures) (c .from-2 .ensures) (sym (c .if-not-allows .ensures tt .is)) (c .if-rest-size .taken); stays = search needs };
 }
 
 pub returns : need.returns
 returns c = record {
-  kept = search needs;
+  same-bytes = search needs;
   cases = took _ _ _ (search needs) _ _ (c .if-tag-due .left) (c .from .ensures) (c .from-2 .ensures) (search needs) (sym (c .if-not-allows .ensures tt .is)) (c .if-rest-size .left);
 }

@@ -17,7 +17,7 @@ gross-requires c κs =
 pub credits-requires : need.credits-requires
 credits-requires c κs =
     let b = month-bounded (c .args .self .now) in
-    record { recovered = b .pilferage; taken = omega (arith, ap taken-of (c .bought-bought .ensures)) }
+    record { recovered = omega arith; taken = omega (arith, ap taken-of (c .bought-bought .ensures)) }
 
 pub returns : need.returns
 returns c =

@@ -18,23 +18,23 @@ use Rattle.fields.specs.Bytes.{field-of, fields-of}
 use Rattle.fields.specs.Heads.{field-asked, size-at, next-byte, Took, Stopped, Parts}
 use Rattle.fields.specs.Questions.{first-no, carried}
 use Rattle.fields.proofs.Asked.{first-no-after, first-no-stop, carried-none, carried-some}
-use Rattle.fields.proofs.Taking.{byte-left, no-byte-left}
+use Rattle.fields.proofs.Heads.{byte-left, no-byte-left}
 use Rattle.month.specs.declared.fault.FileFault.the-variants.{Field, GoesOn}
 use Rattle.monthfile.specs.Questions.{asked-from, file-asked, dues}
-use Rattle.monthfile.specs.Values.{Stand}
+use Rattle.monthfile.specs.Values.{MadeOf}
 
 abbrev pub no-due : Due
 no-due = record { tag = 0; each = 0; least = 0; most = 0 }
 
 -- the first i fields were read, with these values, and a reader of `bytes` stands at `at`
-pub record Passing (file : List ℕ) (values : List (List ℕ)) (i : ℕ) (bytes : List ℕ) (at : ℕ) : Type 0 where
+pub record Progress (file : List ℕ) (values : List (List ℕ)) (i : ℕ) (bytes : List ℕ) (at : ℕ) : Type 0 where
   pub seven : length values ≡ 7
   pub same : bytes ≡ file
   pub read : file ≡ fields-of 1 (take i values) ++ drop at file
   pub asked : first-no (file-asked file) ≡ first-no (asked-from file at (drop i dues))
   pub parts : (k : ℕ) → k < i → Parts (getD dues k no-due) (length (getD values k []))
 
-pub begin : (file : List ℕ) (values : List (List ℕ)) (bytes : List ℕ) (at : ℕ) → length values ≡ 7 → bytes ≡ file → at ≡ 0 → Passing file values 0 bytes at
+pub begin : (file : List ℕ) (values : List (List ℕ)) (bytes : List ℕ) (at : ℕ) → length values ≡ 7 → bytes ≡ file → at ≡ 0 → Progress file values 0 bytes at
 begin file values bytes at seven same none = record {
   seven = seven;
   same = same;
@@ -61,12 +61,12 @@ due-tag (suc (suc (suc (suc (suc zero))))) h = refl
 due-tag (suc (suc (suc (suc (suc (suc zero)))))) h = refl
 due-tag (suc (suc (suc (suc (suc (suc (suc i))))))) h = absurd (omega arith)
 
-module _ {file : List ℕ} {values : List (List ℕ)} {i : ℕ} {bytes : List ℕ} {at : ℕ} (s : Passing file values i bytes at) where
+module _ {file : List ℕ} {values : List (List ℕ)} {i : ℕ} {bytes : List ℕ} {at : ℕ} (s : Progress file values i bytes at) where
   module _ (h : i < 7) where
     left : first-no (asked-from file at (drop i dues)) ≡ first-no (carried Field (field-asked file at (getD dues i no-due)) ++ asked-from file (at + 3 + size-at file at) (drop (i + 1) dues))
     left = ap (λ ds. first-no (asked-from file at ds)) (drop-more dues i no-due h)
 
-    pub pass : {at′ : ℕ} {bytes′ value : List ℕ} → Took bytes at at′ (getD dues i no-due) value → bytes′ ≡ bytes → Passing file (set values i value) (i + 1) bytes′ at′
+    pub pass : {at′ : ℕ} {bytes′ value : List ℕ} → Took bytes at at′ (getD dues i no-due) value → bytes′ ≡ bytes → Progress file (set values i value) (i + 1) bytes′ at′
     pass {at′} {bytes′} {value} took kept =
         let d = getD dues i no-due in
         let t = subst (λ b. Took b at at′ d value) (s .same) took in
@@ -81,8 +81,8 @@ module _ {file : List ℕ} {values : List (List ℕ)} {i : ℕ} {bytes : List �
           read = s .read ∙ ap (λ l. fields-of 1 (take i values) ++ l) (t .split) ∙ sym (append-assoc (fields-of 1 (take i values)) (field-of (d .tag) value) (drop at′ file)) ∙ ap (λ l. l ++ drop at′ file) (sym grown);
           asked = s .asked ∙ left ∙ first-no-after (carried Field (field-asked file at d)) (asked-from file (at + 3 + size-at file at) (drop (i + 1) dues)) (carried-none Field (field-asked file at d) (t .asked)) ∙ ap (λ p. first-no (asked-from file p (drop (i + 1) dues))) next;
           parts = below-more (λ k. Parts (getD dues k no-due) (length (getD (set values i value) k []))) i
-            (λ k below. let other : k ≢ i = omega arith in subst (λ v. Parts (getD dues k no-due) (length v)) (sym (getD-set-other values i k value [] other)) (s .parts k below))
-            (subst (λ v. Parts d (length v)) (sym (getD-set-same values i value [] within)) (t .allowed));
+              (λ k below. let other : k ≢ i = omega arith in subst (λ v. Parts (getD dues k no-due) (length v)) (sym (getD-set-other values i k value [] other)) (s .parts k below))
+              (subst (λ v. Parts d (length v)) (sym (getD-set-same values i value [] within)) (t .allowed));
         }
 
     pub stop : {at′ : ℕ} {e : FieldFault} → Stopped bytes at at′ (getD dues i no-due) e → first-no (file-asked file) ≡ Some (Field e)
@@ -119,12 +119,12 @@ seven-of vs long =
     cc
 
 -- all seven fields were read, and the file stops
-module _ {file : List ℕ} {values : List (List ℕ)} {i : ℕ} {bytes : List ℕ} {at : ℕ} (s : Passing file values i bytes at) (done : 7 ≤ i) (ends : None ≡ next-byte bytes at) where
+module _ {file : List ℕ} {values : List (List ℕ)} {i : ℕ} {bytes : List ℕ} {at : ℕ} (s : Progress file values i bytes at) (done : 7 ≤ i) (ends : None ≡ next-byte bytes at) where
   parts-at : (k : ℕ) (v : List ℕ) → v ≡ getD values k [] → k < 7 → Parts (getD dues k no-due) (length v)
   parts-at k v is h = subst (λ w. Parts (getD dues k no-due) (length w)) (sym is) (s .parts k (omega arith))
 
-  pub stand : {m src p t e b l : List ℕ} → m ≡ getD values 0 [] → src ≡ getD values 1 [] → p ≡ getD values 2 [] → t ≡ getD values 3 [] → e ≡ getD values 4 [] → b ≡ getD values 5 [] → l ≡ getD values 6 [] → Stand file m src p t e b l
-  stand {m} {src} {p} {t} {e} {b} {l} em es ep et ee eb el =
+  pub made-of : {m src p t e b l : List ℕ} → m ≡ getD values 0 [] → src ≡ getD values 1 [] → p ≡ getD values 2 [] → t ≡ getD values 3 [] → e ≡ getD values 4 [] → b ≡ getD values 5 [] → l ≡ getD values 6 [] → MadeOf file m src p t e b l
+  made-of {m} {src} {p} {t} {e} {b} {l} em es ep et ee eb el =
       let all = seven-of values (s .seven) in
       let same : values ≡ m ∷ src ∷ p ∷ t ∷ e ∷ b ∷ l ∷ [] = cc in
       let month = parts-at 0 m em (omega arith) in

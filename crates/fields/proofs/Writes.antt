@@ -9,7 +9,7 @@ use borrow.Rule.Slice.PartMut.{putMid}
 use Rattle.std.proofs.shelf.Lists.{drop-drop, length-take-le, take-at, drop-at, take-more, take-all, joined-more}
 use Rattle.std.specs.Joined.{joined}
 use Rattle.fields.specs.Bytes.{head-of, field-of}
-use Rattle.fields.specs.Places.{put-at, Laid}
+use Rattle.fields.specs.Places.{put-at, Written}
 
 -- after a copy to `buffer[a..a + k]`
 pub put-mid : (a k : ℕ) (xs ys zs : List ℕ) → ys ≡ zs → length zs ≡ k → putMid a k xs ys ≡ put-at xs a zs
@@ -48,16 +48,16 @@ module _ (xs x y : List ℕ) (a b : ℕ) (at : a + length x ≡ b) (fits : b ≤
       cc
 
 -- nothing is written
-pub laid-none : (xs : List ℕ) (a : ℕ) → a ≤ length xs → Laid xs xs a [] a
-laid-none xs a h = record { fits = omega (arith, add-zero a); ends = sym (add-zero a); becomes = put-none xs a }
+pub written-none : (xs : List ℕ) (a : ℕ) → a ≤ length xs → Written xs xs a [] a
+written-none xs a h = record { fits = omega (arith, add-zero a); ends = sym (add-zero a); becomes = put-none xs a }
 
-length-laid : {xs ys x : List ℕ} {a p : ℕ} → Laid xs ys a x p → length ys ≡ length xs
-length-laid {xs} {ys} {x} {a} l = ap length (l .becomes) ∙ length-put xs x a (l .fits)
+length-written : {xs ys x : List ℕ} {a p : ℕ} → Written xs ys a x p → length ys ≡ length xs
+length-written {xs} {ys} {x} {a} l = ap length (l .becomes) ∙ length-put xs x a (l .fits)
 
 -- two writes, the second where the first ends, are one
-pub laid-then : {xs ys zs x y : List ℕ} {a p q : ℕ} → Laid xs ys a x p → Laid ys zs p y q → Laid xs zs a (x ++ y) q
-laid-then {xs} {ys} {zs} {x} {y} {a} {p} {q} l m =
-    let long = length-laid l in
+pub written-then : {xs ys zs x y : List ℕ} {a p q : ℕ} → Written xs ys a x p → Written ys zs p y q → Written xs zs a (x ++ y) q
+written-then {xs} {ys} {zs} {x} {y} {a} {p} {q} l m =
+    let long = length-written l in
     let fits : a + length x + length y ≤ length xs = omega (arith, l .ends, m .fits) in
     record {
       fits = omega (arith, length-append x y);
@@ -66,26 +66,26 @@ laid-then {xs} {ys} {zs} {x} {y} {a} {p} {q} l m =
     }
 
 -- bytes that are known to be others
-pub laid-as : {xs ys x y : List ℕ} {a p : ℕ} → x ≡ y → Laid xs ys a x p → Laid xs ys a y p
-laid-as {xs} {ys} {a = a} {p = p} e l = subst (λ bs. Laid xs ys a bs p) e l
+pub written-as : {xs ys x y : List ℕ} {a p : ℕ} → x ≡ y → Written xs ys a x p → Written xs ys a y p
+written-as {xs} {ys} {a = a} {p = p} e l = subst (λ bs. Written xs ys a bs p) e l
 
 -- nothing follows
-pub laid-last : {xs ys x : List ℕ} {a p : ℕ} → Laid xs ys a x p → Laid xs ys a (x ++ []) p
-laid-last {x = x} l = laid-as (sym (append-nil x)) l
+pub written-last : {xs ys x : List ℕ} {a p : ℕ} → Written xs ys a x p → Written xs ys a (x ++ []) p
+written-last {x = x} l = written-as (sym (append-nil x)) l
 
 -- a head and then its value
-pub laid-field : {xs ys zs h v : List ℕ} {a p q : ℕ} (tag size : ℕ) → h ≡ head-of tag size → size ≡ length v → Laid xs ys a h p → Laid ys zs p v q → Laid xs zs a (field-of tag v) q
-laid-field {v = v} tag size is long head value = laid-as (ap (λ l. l ++ v) (is ∙ ap (head-of tag) long)) (laid-then head value)
+pub written-field : {xs ys zs h v : List ℕ} {a p q : ℕ} (tag size : ℕ) → h ≡ head-of tag size → size ≡ length v → Written xs ys a h p → Written ys zs p v q → Written xs zs a (field-of tag v) q
+written-field {v = v} tag size is long head value = written-as (ap (λ l. l ++ v) (is ∙ ap (head-of tag) long)) (written-then head value)
 
 -- one item more of a row, each written by its bytes
-pub laid-more : {X : Type 0} (f : X → List ℕ) (items : List X) (i : ℕ) (x : X) {xs ys zs bs : List ℕ} {a p q : ℕ} → i < length items → x ≡ getD items i x → bs ≡ f x → Laid xs ys a (joined f (take i items)) p → Laid ys zs p bs q → Laid xs zs a (joined f (take (i + 1) items)) q
-laid-more f items i x {xs} {ys} {zs} {bs} h is bytes so-far more =
+pub written-more : {X : Type 0} (f : X → List ℕ) (items : List X) (i : ℕ) (x : X) {xs ys zs bs : List ℕ} {a p q : ℕ} → i < length items → x ≡ getD items i x → bs ≡ f x → Written xs ys a (joined f (take i items)) p → Written ys zs p bs q → Written xs zs a (joined f (take (i + 1) items)) q
+written-more f items i x {xs} {ys} {zs} {bs} h is bytes so-far more =
     let push : joined f (take i items) ++ f x ≡ joined f (take (i + 1) items) = joined-more f [] (take i items) x ∙ ap (joined f) (sym (take-more items i x h ∙ ap (λ y. take i items ++ y ∷ []) (sym is))) in
-    laid-as push (laid-then so-far (laid-as bytes more))
+    written-as push (written-then so-far (written-as bytes more))
 
-pub laid-all : {X : Type 0} (f : X → List ℕ) (items : List X) (i : ℕ) {xs ys : List ℕ} {a p : ℕ} → length items ≤ i → Laid xs ys a (joined f (take i items)) p → Laid xs ys a (joined f items) p
-laid-all f items i {xs} {ys} {a} {p} h so-far = subst (λ l. Laid xs ys a (joined f l) p) (take-all i items h) so-far
+pub written-all : {X : Type 0} (f : X → List ℕ) (items : List X) (i : ℕ) {xs ys : List ℕ} {a p : ℕ} → length items ≤ i → Written xs ys a (joined f (take i items)) p → Written xs ys a (joined f items) p
+written-all f items i {xs} {ys} {a} {p} h so-far = subst (λ l. Written xs ys a (joined f l) p) (take-all i items h) so-far
 
 -- what is written from the start on stands there, and what follows is as it was
-pub laid-first : {xs ys bs : List ℕ} {p : ℕ} → Laid xs ys 0 bs p → ys ≡ bs ++ drop (length bs) xs
-laid-first {xs} {ys} {bs} l = l .becomes ∙ put-first xs bs
+pub written-first : {xs ys bs : List ℕ} {p : ℕ} → Written xs ys 0 bs p → ys ≡ bs ++ drop (length bs) xs
+written-first {xs} {ys} {bs} l = l .becomes ∙ put-first xs bs

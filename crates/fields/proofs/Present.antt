@@ -19,17 +19,17 @@ module _ (file pre v rest : List ℕ) (d : Due) (is : file ≡ pre ++ (field-of 
   file-long : length file ≡ length pre + 3 + length v + length rest
   file-long = omega (arith, ap length is ∙ length-append pre (field-of (d .tag) v ++ rest), length-append v rest)
 
-  tag-there : getD file (length pre) 0 ≡ d .tag
-  tag-there = ap (λ l. getD l (length pre) 0) is ∙ getD-at pre (d .tag) (length v / 256 ∷ length v % 256 ∷ (v ++ rest)) 0 (length pre) refl
+  tag-present : getD file (length pre) 0 ≡ d .tag
+  tag-present = ap (λ l. getD l (length pre) 0) is ∙ getD-at pre (d .tag) (length v / 256 ∷ length v % 256 ∷ (v ++ rest)) 0 (length pre) refl
 
-  size-there : size-at file (length pre) ≡ length v
-  size-there =
+  size-present : size-at file (length pre) ≡ length v
+  size-present =
       let one : getD file (length pre + 1) 0 ≡ length v / 256 = ap (λ l. getD l (length pre + 1) 0) is ∙ getD-append-add pre (field-of (d .tag) v ++ rest) 1 0 in
       let two : getD file (length pre + 2) 0 ≡ length v % 256 = ap (λ l. getD l (length pre + 2) 0) is ∙ getD-append-add pre (field-of (d .tag) v ++ rest) 2 0 in
       omega (arith, div-add-mod' (length v) 256)
 
-  pub field-there : first-no (field-asked file (length pre) d) ≡ None
-  field-there = rw (le-leb (length pre + 3) (length file) (omega (arith, file-long)), eq-eqb _ _ tag-there, size-there, may-from-parts d (length v) parts, le-leb (length pre + 3 + length v) (length file) (omega (arith, file-long)))
+  pub field-present : first-no (field-asked file (length pre) d) ≡ None
+  field-present = rw (le-leb (length pre + 3) (length file) (omega (arith, file-long)), eq-eqb _ _ tag-present, size-present, may-from-parts d (length v) parts, le-leb (length pre + 3 + length v) (length file) (omega (arith, file-long)))
 
-  pub past-there : length pre + 3 + size-at file (length pre) ≡ length (pre ++ field-of (d .tag) v)
-  past-there = omega (arith, size-there, length-append pre (field-of (d .tag) v))
+  pub past-present : length pre + 3 + size-at file (length pre) ≡ length (pre ++ field-of (d .tag) v)
+  past-present = omega (arith, size-present, length-append pre (field-of (d .tag) v))
