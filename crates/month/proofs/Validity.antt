@@ -7,15 +7,19 @@ use native.Mathlib.Omega.{arith}
 use lib.Dec.{leb, ltb}
 use lib.ListN.{length}
 use Rattle.std.specs.Options.{isSome}
+use Rattle.std.specs.Results.{Cases, isOk}
 use Rattle.std.specs.declared.option.Option.{Option}
 use Rattle.std.specs.declared.option.Option.the-variants.{Some, None}
+use Rattle.std.specs.declared.result.Result.{Result}
+use Rattle.std.specs.declared.result.Result.the-variants.{Ok, Err}
 use Rattle.std.specs.shelf.Lists.{All, sumBy}
 use Rattle.std.proofs.shelf.Elements.{all-weaker}
 use Rattle.std.proofs.shelf.Sums.{sumBy-le, sumBy-cons}
 use Rattle.std.proofs.shelf.Tests.{and-parts, and-from, leb-true, le-leb, ltb-true, lt-ltb}
 use Rattle.bounded.proofs.Held.{held-most}
 use Rattle.fields.specs.Questions.{first-no}
-use Rattle.fields.proofs.Asked.{Yes, all-yes, none-from-yes, first-no-after}
+use Rattle.fields.proofs.Asked.{Yes, all-yes, none-from-yes, first-no-after, some-none}
+use Rattle.month.specs.declared.fault.MonthFault.{MonthFault}
 use Rattle.month.specs.declared.month.Month.{Month}
 use Rattle.month.specs.declared.parts.Source.{Source}
 use Rattle.month.specs.declared.parts.Bracket.{Bracket}
@@ -24,6 +28,7 @@ use Rattle.month.specs.Amounts.{cost-of, taken-of, passed-of, kwh-of, sold}
 use Rattle.month.specs.Asked.{centavos, kwh, million, source-within, energy-within, exempt-within, bracket-within, sales-within, passed-within, limits-asked, rules-asked, month-asked}
 use Rattle.month.specs.Bounds.{Bounded}
 use Rattle.month.specs.Figures.{Figures, Counted}
+use Rattle.month.specs.Making.{Made, Refused}
 use Rattle.month.specs.Stated.{stated}
 use Rattle.month.specs.Valid.{SourceWithin, BracketWithin, Within, Valid}
 use Rattle.month.specs.View.{figures}
@@ -195,3 +200,8 @@ month-valid m = valid-from-yes (figures m) (counted (m .statement)) (none-from _
 
 pub month-bounded : (m : Month) → Bounded (figures m)
 month-bounded m = let v = month-valid m in bounded (figures m) (v .counted) (v .within)
+
+-- valid figures are never refused
+pub valid-made : (s : Statement) (r : Result Month MonthFault) → Cases r (λ m. Made s m) (λ e. Refused s e) → Valid (stated s) → isOk r ≡ true
+valid-made s (Ok m) made v = refl
+valid-made s (Err e) refused v = absurd (some-none (sym (refused .first) ∙ yes-from-valid (stated s) v))

@@ -16,5 +16,5 @@ pub returns : need.returns
 returns c =
     let file = c .args .file .now in
     let is = c .in-Continue-read-statement .ensures tt in
-    let cases = cases-weaker (c .new .result) (c .new .ensures) (λ m made. accepted-month file _ m is made) (λ e refused. refused-month file _ e is refused) in
+    let cases = cases-weaker (c .new .result) (c .new .ensures .cases) (λ m made. accepted-month file _ m is made) (λ e refused. refused-month file _ e is refused) in
     record { cases = cases; valid-file = valid-file file (c .new .result) cases; month-fault = month-fault file (c .new .result) cases; file-fault = file-fault file (c .new .result) cases }
