@@ -1,6 +1,5 @@
 -- How large a month's lifeline discount is. Assumes nothing.
 use mathlib.Core.Path.{_≡_, subst, sym}
-use mathlib.Core.Bool.{cond}
 use mathlib.Core.List.{List}
 use Prim.Native.Nat.{ℕ, _+_, _*_, _≤_, _<_}
 use native.Mathlib.Omega.{arith}
@@ -14,40 +13,35 @@ use Rattle.std.proofs.shelf.Tests.{cond-both}
 use Rattle.month.specs.declared.month.Month.{Month}
 use Rattle.month.specs.declared.parts.Bracket.{Bracket}
 use Rattle.month.specs.declared.parts.Sales.{Sales}
-use Rattle.month.specs.Amounts.{percents}
-use Rattle.month.specs.Valid.{BracketWithin, Within}
+use Rattle.month.specs.Amounts.{hundredfold, granted}
+use Rattle.month.specs.Bounds.{BoundedBracket}
+use Rattle.month.specs.Valid.{BracketWithin}
 use Rattle.month.specs.View.{figures}
 use Rattle.month.proofs.Validity.{month-valid}
 
--- a hundred times one bracket's discount, and its parts
-pub record Percent (s : Sales) (b : Bracket) : Type 0 where
-  pub energy-most : b .kwh * s .rate ≤ 10000000000000
-  pub metering-most : b .customers * s .metering ≤ 1000000000000
-  pub product-most : (b .kwh * s .rate + b .customers * s .metering) * b .percent ≤ 1100000000000000
-
 module _ (s : Sales) (b : Bracket) (rate : s .rate ≤ 1000000) (metering : s .metering ≤ 1000000) (w : BracketWithin b) where
-  percent : Percent s b
-  percent =
+  bounded-bracket : BoundedBracket s b
+  bounded-bracket =
       let e : b .kwh * s .rate ≤ 10000000000000 = mul-le (b .kwh) (s .rate) 10000000 1000000 (w .kwh-most) rate in
       let m : b .customers * s .metering ≤ 1000000000000 = mul-le (b .customers) (s .metering) 1000000 1000000 (w .customers-most) metering in
       record {
-        energy-most = e;
-        metering-most = m;
-        product-most = mul-le (b .kwh * s .rate + b .customers * s .metering) (b .percent) 11000000000000 100 (omega arith) (w .percent-most);
+        energy = e;
+        metering = m;
+        product = mul-le (b .kwh * s .rate + b .customers * s .metering) (b .percent) 11000000000000 100 (omega arith) (w .percent-most);
       }
 
-  percents-most : percents s b ≤ 1100000000000000
-  percents-most = cond-both (ltb 0 (b .percent)) _ 0 (λ n. n ≤ 1100000000000000) (λ _. percent .product-most) (λ _. omega arith)
+  granted-most : granted s b ≤ 1100000000000000
+  granted-most = cond-both (ltb 0 (b .percent)) (hundredfold s b) 0 (λ n. n ≤ 1100000000000000) (λ _. bounded-bracket .product) (λ _. omega arith)
 
 module _ (m : Month) where
   -- the bracket at i of a month
-  pub bracket-percent : (xs : List Bracket) (i : ℕ) (d : Bracket) → xs ≡ figures m .brackets → i < length xs → Percent (m .statement .sales) (getD xs i d)
-  bracket-percent xs i d e h =
+  pub bracket-bounded : (xs : List Bracket) (i : ℕ) (d : Bracket) → xs ≡ figures m .brackets → i < length xs → BoundedBracket (m .statement .sales) (getD xs i d)
+  bracket-bounded xs i d e h =
       let w = month-valid m .within in
-      percent (m .statement .sales) (getD xs i d) (w .rate-most) (w .metering-most) (all-getD BracketWithin xs i d h (subst (All BracketWithin) (sym e) (w .brackets)))
+      bounded-bracket (m .statement .sales) (getD xs i d) (w .rate-most) (w .metering-most) (all-getD BracketWithin xs i d h (subst (All BracketWithin) (sym e) (w .brackets)))
 
-  pub sum-most : sumBy (percents (m .statement .sales)) (figures m .brackets) ≤ 4400000000000000
+  pub sum-most : sumBy (granted (m .statement .sales)) (figures m .brackets) ≤ 4400000000000000
   sum-most =
       let v = month-valid m in
       let s = m .statement .sales in
-      omega (arith, v .counted .few-brackets, sumBy-le (percents s) 1100000000000000 (figures m .brackets) (all-weaker BracketWithin (λ b. percents s b ≤ 1100000000000000) (λ b h. percents-most s b (v .within .rate-most) (v .within .metering-most) h) (figures m .brackets) (v .within .brackets)))
+      omega (arith, v .counted .few-brackets, sumBy-le (granted s) 1100000000000000 (figures m .brackets) (all-weaker BracketWithin (λ b. granted s b ≤ 1100000000000000) (λ b h. granted-most s b (v .within .rate-most) (v .within .metering-most) h) (figures m .brackets) (v .within .brackets)))

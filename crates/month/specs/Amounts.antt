@@ -56,10 +56,14 @@ transmission-formula f = recoverable (f .transmission) 0
 abbrev pub sold : Figures → ℕ
 sold f = f .sales .nonlifeline + sumBy kwh-of (f .brackets)
 
--- a hundred times the discount of one bracket, which is passed over where it has 0 percent
-abbrev pub percents : Sales → Bracket → ℕ
-percents s b = cond (ltb 0 (b .percent)) ((b .kwh * s .rate + b .customers * s .metering) * b .percent) 0
+-- a hundred times the discount of one bracket
+abbrev pub hundredfold : Sales → Bracket → ℕ
+hundredfold s b = (b .kwh * s .rate + b .customers * s .metering) * b .percent
+
+-- the same, where a bracket of 0 percent is passed over
+abbrev pub granted : Sales → Bracket → ℕ
+granted s b = cond (ltb 0 (b .percent)) (hundredfold s b) 0
 
 -- D: one division, rounded down, of the whole sum
 abbrev pub discount : Figures → ℕ
-discount f = sumBy (percents (f .sales)) (f .brackets) / 100
+discount f = sumBy (granted (f .sales)) (f .brackets) / 100

@@ -1,6 +1,8 @@
 -- How large sums are where no number is outside its limit. Assumes nothing.
-use Prim.Native.Nat.{ℕ, _≤_}
-use Rattle.month.specs.Amounts.{all-bought, sold}
+use Prim.Native.Nat.{ℕ, _*_, _≤_}
+use Rattle.month.specs.declared.parts.Bracket.{Bracket}
+use Rattle.month.specs.declared.parts.Sales.{Sales}
+use Rattle.month.specs.Amounts.{all-bought, sold, hundredfold}
 use Rattle.month.specs.Figures.{Figures}
 
 pub record Bounded (f : Figures) : Type 0 where
@@ -16,3 +18,9 @@ pub record Bounded (f : Figures) : Type 0 where
   pub ungenerated : f .exempt .generation ≤ 10000000
   pub untransmitted : f .exempt .transmission ≤ 10000000
   pub sales : sold f ≤ 50000000
+
+-- a hundred times one bracket's discount, and the parts that it is made of
+pub record BoundedBracket (s : Sales) (b : Bracket) : Type 0 where
+  pub energy : b .kwh * s .rate ≤ 10000000000000
+  pub metering : b .customers * s .metering ≤ 1000000000000
+  pub product : hundredfold s b ≤ 1100000000000000

@@ -1,9 +1,11 @@
 // What a statement's lists add up to, where no number is outside its limit.
 ghost use mathlib.Core.Path.{_≡_};
 ghost use Prim.Native.Nat.{_≤_};
-ghost use Rattle.month.specs.Amounts.{all-bought, gross, credits, sold};
-ghost use Rattle.month.specs.Bounds.{Bounded};
+ghost use Rattle.month.specs.Amounts.{all-bought, gross, credits, hundredfold, sold};
+ghost use Rattle.month.specs.Bounds.{Bounded, BoundedBracket};
 ghost use Rattle.month.specs.Stated.{stated};
+use crate::parts::Bracket;
+use crate::parts::Sales;
 use crate::parts::Source;
 use crate::statement::Statement;
 
@@ -29,6 +31,16 @@ impl Source {
         ensures { λ r. ⌜ r ≡ credits (now (self .entry)) recovered ⌝ }
     {
         UNITS * recovered + HALF * self.taken
+    }
+}
+
+impl Bracket {
+    // In units: a hundred times the discount.
+    pub(crate) fn hundredfold(&self, sales: Sales) -> u64
+        requires { ⌜ BoundedBracket sales (now self) ⌝ }
+        ensures { λ r. ⌜ r ≡ hundredfold sales (now (self .entry)) ⌝ }
+    {
+        (self.kwh * sales.rate + self.customers * sales.metering) * self.percent
     }
 }
 

@@ -13,8 +13,6 @@ pub(crate) trait Entry {
 
     law three: { (x : Self) → length (numbers x) ≡ 3 };
 
-    law exact: { (x y : Self) → numbers x ≡ numbers y → x ≡ y };
-
     fn of(first: u64, second: u64, third: u64) -> Self
         ensures { λ r. ⌜ numbers r ≡ first ∷ second ∷ third ∷ [] ⌝ };
 

@@ -41,14 +41,13 @@ impl Month {
         ensures is { λ r. ⌜ r ≡ discount (figures (now (self .entry))) ⌝ }
         ensures most { λ r. ⌜ r ≤ 44000000000000 ⌝ }
     {
-        let rate = self.statement.sales.rate;
-        let metering = self.statement.sales.metering;
-        let mut percents = 0;
+        let sales = self.statement.sales;
+        let mut total = 0;
         for bracket in self.statement.brackets.as_slice() {
             if bracket.percent > 0 {
-                percents += (bracket.kwh * rate + bracket.customers * metering) * bracket.percent;
+                total += bracket.hundredfold(sales);
             }
         }
-        percents / 100
+        total / 100
     }
 }
