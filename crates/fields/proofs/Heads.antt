@@ -1,7 +1,7 @@
 -- What the reader finds at a field's head. Assumes nothing.
 use mathlib.Core.Path.{_≡_, refl, sym, ap, subst, _∙_}
 use mathlib.Core.Bool.{Bool, true, false, cond}
-use mathlib.Core.List.{List, [], _∷_, _++_}
+use mathlib.Core.List.{List, _∷_, _++_}
 use Prim.Native.Nat.{ℕ, _+_, _-_, _*_, _/_, _%_, _≤_, _<_}
 use native.Mathlib.Nat.{add-assoc, add-zero, sub-zero}
 use native.Mathlib.Omega.{arith}
@@ -11,10 +11,9 @@ use Rattle.std.proofs.shelf.Bits.{div-mul-add, mod-mul-add}
 use Rattle.std.proofs.shelf.Lists.{take-rest, drop-drop, drop-more, getD-drop, length-take-le}
 use Rattle.std.proofs.shelf.Tests.{le-leb, lt-leb, eq-eqb, ne-eqb}
 use Rattle.std.specs.declared.option.Option.the-variants.{Some, None}
-use Rattle.fields.specs.declared.fault.FieldFault.the-variants.{NoHead, WrongTag, WrongLength, CutShort}
+use Rattle.fields.specs.declared.fault.FieldFault.the-variants.{WrongTag, WrongLength, CutShort}
 use Rattle.fields.specs.declared.due.Due.{Due}
 use Rattle.fields.specs.Heads.{field-asked, size-at, may, next-byte, Took}
-use Rattle.fields.specs.Bytes.{field-of}
 use Rattle.fields.specs.Questions.{first-no}
 use Rattle.fields.proofs.Lengths.{parts-from-may}
 

@@ -1,8 +1,7 @@
 -- A field that stands in a file behind other bytes answers questions 1 to 4 with yes. Assumes nothing.
 use mathlib.Core.Path.{_≡_, refl, ap, _∙_}
-use mathlib.Core.Bool.{true}
-use mathlib.Core.List.{List, [], _∷_, _++_}
-use Prim.Native.Nat.{ℕ, _+_, _*_, _/_, _%_}
+use mathlib.Core.List.{List, _∷_, _++_}
+use Prim.Native.Nat.{ℕ, _+_, _/_, _%_}
 use native.Mathlib.Omega.{arith}
 use lib.ListN.{length, getD, length-append}
 use Rattle.std.proofs.shelf.Bits.{div-add-mod'}
@@ -11,7 +10,7 @@ use Rattle.std.proofs.shelf.Tests.{le-leb, eq-eqb}
 use Rattle.std.specs.declared.option.Option.the-variants.{None}
 use Rattle.fields.specs.declared.due.Due.{Due}
 use Rattle.fields.specs.Bytes.{field-of}
-use Rattle.fields.specs.Heads.{field-asked, size-at, may, Parts}
+use Rattle.fields.specs.Heads.{field-asked, size-at, Parts}
 use Rattle.fields.specs.Questions.{first-no}
 use Rattle.fields.proofs.Lengths.{may-from-parts}
 

@@ -8,7 +8,7 @@ use lib.ListN.{length, take, drop, length-append, take-append-drop}
 use Rattle.std.specs.Joined.{joined}
 use Rattle.std.proofs.shelf.Bits.{div-add-mod'}
 use Rattle.std.proofs.shelf.Lists.{take-at, drop-at, drop-drop, drop-all, joined-more}
-use Rattle.fields.specs.Bytes.{be, eights, field-of, fields-of}
+use Rattle.fields.specs.Bytes.{be, eights, fields-of}
 use Rattle.fields.proofs.Numerals.{length-be, be-same}
 
 -- items of w bytes each

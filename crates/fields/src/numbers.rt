@@ -1,5 +1,4 @@
 // Numbers as they stand in bytes: unsigned, the highest byte first.
-ghost use mathlib.Core.Path.{_≡_};
 ghost use Prim.Native.Nat.{_<_};
 ghost use lib.ListN.{length};
 ghost use Rattle.std.specs.Options.{Cases as BySome};

@@ -1,11 +1,10 @@
 -- Questions 6 to 11 answered yes, and valid figures, are the same. Assumes nothing.
-use mathlib.Core.Path.{_≡_, refl, sym, ap, _∙_}
+use mathlib.Core.Path.{_≡_, refl, sym, _∙_}
 use mathlib.Core.Bool.{Bool, true, false, _&&_}
 use mathlib.Core.List.{List, [], _∷_}
-use Prim.Native.Nat.{ℕ, _+_, _*_, _≤_, _<_}
+use Prim.Native.Nat.{ℕ, _+_, _*_, _≤_}
 use native.Mathlib.Omega.{arith}
 use lib.Dec.{leb, ltb}
-use lib.ListN.{length}
 use Rattle.std.specs.Options.{isSome}
 use Rattle.std.specs.Results.{Cases, isOk}
 use Rattle.std.specs.declared.option.Option.{Option}
@@ -18,14 +17,14 @@ use Rattle.std.proofs.shelf.Sums.{sumBy-le, sumBy-cons}
 use Rattle.std.proofs.shelf.Tests.{and-parts, and-from, leb-true, le-leb, ltb-true, lt-ltb}
 use Rattle.bounded.proofs.Held.{held-most}
 use Rattle.fields.specs.Questions.{first-no}
-use Rattle.fields.proofs.Asked.{Yes, all-yes, none-from-yes, first-no-after, some-none}
+use Rattle.fields.proofs.Asked.{all-yes, none-from-yes, first-no-after, some-none}
 use Rattle.month.specs.declared.fault.MonthFault.{MonthFault}
 use Rattle.month.specs.declared.month.Month.{Month}
 use Rattle.month.specs.declared.parts.Source.{Source}
 use Rattle.month.specs.declared.parts.Bracket.{Bracket}
 use Rattle.month.specs.declared.statement.Statement.{Statement}
 use Rattle.month.specs.Amounts.{cost-of, taken-of, passed-of, kwh-of, sold}
-use Rattle.month.specs.Asked.{centavos, kwh, million, source-within, energy-within, exempt-within, bracket-within, sales-within, passed-within, limits-asked, rules-asked, month-asked}
+use Rattle.month.specs.Asked.{centavos, kwh, million, source-within, energy-within, exempt-within, bracket-within, passed-within, limits-asked, rules-asked, month-asked}
 use Rattle.month.specs.Bounds.{Bounded}
 use Rattle.month.specs.Figures.{Figures, Counted}
 use Rattle.month.specs.Making.{Made, Refused}

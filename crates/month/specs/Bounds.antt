@@ -1,5 +1,5 @@
 -- How large sums are where no number is outside its limit. Assumes nothing.
-use Prim.Native.Nat.{ℕ, _*_, _≤_}
+use Prim.Native.Nat.{_*_, _≤_}
 use Rattle.month.specs.declared.parts.Bracket.{Bracket}
 use Rattle.month.specs.declared.parts.Sales.{Sales}
 use Rattle.month.specs.Amounts.{all-bought, sold, hundredfold}

@@ -1,6 +1,5 @@
 -- The facts that questions 6 to 11 ask, in plain numbers: a month that exists has them all. Assumes nothing.
-use mathlib.Core.Path.{_≡_}
-use Prim.Native.Nat.{ℕ, _+_, _*_, _≤_, _<_}
+use Prim.Native.Nat.{_+_, _*_, _≤_, _<_}
 use Rattle.std.specs.shelf.Lists.{All, sumBy}
 use Rattle.month.specs.declared.parts.Source.{Source}
 use Rattle.month.specs.declared.parts.Bracket.{Bracket}

@@ -30,11 +30,16 @@ pub(crate) impl fmt::Display for Explanation as ExplanationDisplay {
                     "The source costs in field {tag} sum to more than 5000000000 centavos."
                 )
             }
-            MonthFault::BelowZero(tag) => {
-                let cost = cost_of(tag);
+            MonthFault::BelowZero(2) => {
                 write!(
                     f,
-                    "{cost} is below zero, after recoveries and half the discount kept."
+                    "The cost of generation G is below zero: P and half the discounts kept are more than the source costs."
+                )
+            }
+            MonthFault::BelowZero(_) => {
+                write!(
+                    f,
+                    "The cost of transmission T is below zero: half the discount kept is more than the cost."
                 )
             }
             MonthFault::EnergyFigures(tag) => {
@@ -89,12 +94,5 @@ fn limit_of(tag: u8) -> &'static str {
         5 => "energy goes up to 10000000 kWh",
         6 => "a bracket has up to 10000000 kWh, 1000000 customers and 100 percent",
         _ => "N goes up to 10000000 kWh, R and M go up to 1000000 units",
-    }
-}
-
-fn cost_of(tag: u8) -> &'static str {
-    match tag {
-        2 => "The cost of generation G",
-        _ => "The cost of transmission T",
     }
 }

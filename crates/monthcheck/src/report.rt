@@ -1,70 +1,60 @@
 // What a month states, and what follows, a line for each.
 use month::Month;
+use month::Source;
 use month::Statement;
-use std::fmt;
+use std::fmt::Display;
 use std::io;
 
-// Units of a ten-thousandth of a peso, told in pesos too.
-#[derive(Clone, Copy)]
-struct Units(u64);
-
-impl fmt::Display for Units as UnitsDisplay {
-    fn fmt<W: fmt::Write>(&self, f: &mut fmt::Formatter<W>) -> fmt::Result {
-        let units = self.0;
-        let pesos = units / 10_000;
-        let rest = units % 10_000;
-        write!(f, "{units} units = {pesos}.{rest:04} pesos")
-    }
-}
-
 pub(crate) fn print_month(rt: &impl Print, month: &Month) -> io::Result<()> {
-    print_costs(rt, month.statement())?;
-    print_energy(rt, month.statement())?;
-    print_sales(rt, month.statement())?;
+    let statement = month.statement();
+    println!(rt, "month {}", statement.month)?;
+    print_costs(rt, statement)?;
+    print_energy(rt, statement)?;
+    print_sales(rt, statement)?;
     print_amounts(rt, month)
 }
 
-fn print_costs(rt: &impl Print, statement: &Statement) -> io::Result<()> {
-    println!(rt, "month {}", statement.month)?;
-    for (i, source) in statement.sources.as_slice().iter().enumerate() {
-        println!(
-            rt,
-            "source {}: cost {}, discount taken {}, passed on {} (centavos)",
-            i + 1,
-            source.cost,
-            source.taken,
-            source.passed
-        )?;
-    }
-    println!(rt, "pilferage recovery P: {} centavos", statement.pilferage)?;
-    let transmission = statement.transmission;
+fn print_source(rt: &impl Print, name: impl Display + Drop, source: &Source) -> io::Result<()> {
+    let cost = source.cost;
+    let taken = source.taken;
+    let passed = source.passed;
     println!(
         rt,
-        "transmission: cost {}, discount taken {}, passed on {} (centavos)",
-        transmission.cost, transmission.taken, transmission.passed
+        "{name}: cost {cost}, discount taken {taken}, passed on {passed} (centavos)"
     )
+}
+
+fn print_kwh(rt: &impl Print, name: &str, kwh: u64) -> io::Result<()> {
+    println!(rt, "{name}: {kwh} kWh")
+}
+
+// An amount in units of a ten-thousandth of a peso, told in pesos too.
+fn print_units(rt: &impl Print, name: &str, units: u64) -> io::Result<()> {
+    let pesos = units / 10_000;
+    let rest = units % 10_000;
+    println!(rt, "{name}: {units} units = {pesos}.{rest:04} pesos")
+}
+
+fn print_costs(rt: &impl Print, statement: &Statement) -> io::Result<()> {
+    for (i, source) in statement.sources.as_slice().iter().enumerate() {
+        print_source(rt, format_args!("source {}", i + 1), source)?;
+    }
+    println!(rt, "pilferage recovery P: {} centavos", statement.pilferage)?;
+    print_source(rt, "transmission", &statement.transmission)
 }
 
 fn print_energy(rt: &impl Print, statement: &Statement) -> io::Result<()> {
     let energy = statement.energy;
     let exempt = statement.exempt;
-    println!(rt, "input I: {} kWh", energy.input)?;
-    println!(
+    print_kwh(rt, "input I", energy.input)?;
+    print_kwh(
         rt,
-        "sub-transmission and substation loss A: {} kWh",
-        energy.substation
+        "sub-transmission and substation loss A",
+        energy.substation,
     )?;
-    println!(rt, "feeder loss F: {} kWh", energy.feeder)?;
-    println!(
-        rt,
-        "input charged no generation X: {} kWh",
-        exempt.generation
-    )?;
-    println!(
-        rt,
-        "input charged no transmission Y: {} kWh",
-        exempt.transmission
-    )
+    print_kwh(rt, "feeder loss F", energy.feeder)?;
+    print_kwh(rt, "input charged no generation X", exempt.generation)?;
+    print_kwh(rt, "input charged no transmission Y", exempt.transmission)
 }
 
 fn print_sales(rt: &impl Print, statement: &Statement) -> io::Result<()> {
@@ -79,7 +69,7 @@ fn print_sales(rt: &impl Print, statement: &Statement) -> io::Result<()> {
         )?;
     }
     let sales = statement.sales;
-    println!(rt, "non-lifeline sales N: {} kWh", sales.nonlifeline)?;
+    print_kwh(rt, "non-lifeline sales N", sales.nonlifeline)?;
     println!(rt, "full rate R: {} units per kWh", sales.rate)?;
     println!(
         rt,
@@ -89,20 +79,8 @@ fn print_sales(rt: &impl Print, statement: &Statement) -> io::Result<()> {
 }
 
 fn print_amounts(rt: &impl Print, month: &Month) -> io::Result<()> {
-    println!(
-        rt,
-        "cost of generation G: {}",
-        Units(month.generation_cost())
-    )?;
-    println!(
-        rt,
-        "cost of transmission T: {}",
-        Units(month.transmission_cost())
-    )?;
-    println!(rt, "sales S: {} kWh", month.sales())?;
-    println!(
-        rt,
-        "lifeline discount D: {}",
-        Units(month.lifeline_discount())
-    )
+    print_units(rt, "cost of generation G", month.generation_cost())?;
+    print_units(rt, "cost of transmission T", month.transmission_cost())?;
+    print_kwh(rt, "sales S", month.sales())?;
+    print_units(rt, "lifeline discount D", month.lifeline_discount())
 }

@@ -1,6 +1,6 @@
 -- What reading a file answers. Assumes nothing.
 use mathlib.Core.Path.{_≡_, sym, ap, subst, _∙_}
-use mathlib.Core.List.{List, [], _∷_}
+use mathlib.Core.List.{List, []}
 use Prim.Native.Nat.{ℕ}
 use Rattle.std.specs.Results.{Cases}
 use Rattle.std.specs.declared.option.Option.the-variants.{Some, None}

@@ -10,7 +10,6 @@ use Rattle.fields.proofs.Writes.{written-first}
 use Rattle.month.specs.declared.month.Month.{Month}
 use Rattle.month.specs.View.{figures}
 use Rattle.monthfile.specs.Layout.{file-of}
-use Rattle.monthfile.specs.Reading.{Accepted}
 use Rattle.monthfile.specs.Writing.{Wrote, GaveBack}
 
 pub wrote : {before after file : List ℕ} {n : ℕ} → 1024 ≤ length before → Written before after 0 file n → Wrote before after n file

@@ -1,6 +1,5 @@
 use Prim.Native.Nat.{_<_}
 use native.Mathlib.Omega.{arith}
-use borrow.Author.Needs.{needs}
 use Rattle.fields.proofs.Numerals.{be-none, be-more, be-all, below-more, room}
 use Rattle.fields.proofs.numbers.number.Needs as need
 

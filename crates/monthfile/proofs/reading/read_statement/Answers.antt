@@ -1,5 +1,4 @@
 use mathlib.Core.Path.{_≡_, ap, _∙_}
-use mathlib.Core.List.{[], _∷_}
 use native.Mathlib.Omega.{arith}
 use Rattle.fields.specs.Bytes.{be}
 use Rattle.fields.proofs.Rows.{from-number, from-end}

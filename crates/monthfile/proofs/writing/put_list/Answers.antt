@@ -1,8 +1,7 @@
-use mathlib.Core.Path.{sym, ap, _∙_}
+use mathlib.Core.Path.{sym, ap}
 use native.Mathlib.Omega.{arith}
 use lib.ListN.{length}
 use Rattle.fields.proofs.Writes.{written-field}
-use Rattle.monthfile.specs.Layout.{bytes-by}
 use Rattle.monthfile.proofs.Lengths.{length-entries}
 use Rattle.monthfile.proofs.writing.put_list.Needs as need
 

@@ -1,6 +1,6 @@
-use mathlib.Core.Path.{sym, _∙_}
+use mathlib.Core.Path.{sym}
 use borrow.Author.Needs.{needs}
-use Rattle.fields.proofs.Heads.{wrong-tag, wrong-length, cut-short, in-file, took}
+use Rattle.fields.proofs.Heads.{wrong-tag, wrong-length, cut-short, took}
 use Rattle.fields.proofs.reader.Reader.field.Needs as need
 
 pub returns-then-tag-due : need.returns-then-tag-due

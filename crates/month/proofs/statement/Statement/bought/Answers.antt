@@ -1,5 +1,4 @@
-use mathlib.Core.Path.{_≡_, sym, _∙_}
-use Prim.Native.Nat.{ℕ}
+use mathlib.Core.Path.{_∙_}
 use native.Mathlib.Omega.{arith}
 use Rattle.month.specs.Amounts.{cost-of, taken-of, passed-of}
 use Rattle.month.specs.declared.parts.Source.{Source}
