@@ -1,4 +1,4 @@
--- Questions asked in order. Assumes nothing.
+-- Questions asked in order.
 use mathlib.Core.Path.{_≡_, refl, sym, ap, _∙_}
 use mathlib.Core.Bool.{Bool, true, false, cond}
 use mathlib.Core.List.{List, [], _∷_, _++_}

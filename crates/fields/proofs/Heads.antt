@@ -1,4 +1,4 @@
--- What the reader finds at a field's head. Assumes nothing.
+-- What the reader finds at a field's head.
 use mathlib.Core.Path.{_≡_, refl, sym, ap, subst, _∙_}
 use mathlib.Core.Bool.{Bool, true, false, cond}
 use mathlib.Core.List.{List, _∷_, _++_}
@@ -13,7 +13,7 @@ use Rattle.std.proofs.shelf.Tests.{le-leb, lt-leb, eq-eqb, ne-eqb}
 use Rattle.std.specs.declared.option.Option.the-variants.{Some, None}
 use Rattle.fields.specs.declared.fault.FieldFault.the-variants.{WrongTag, WrongLength, CutShort}
 use Rattle.fields.specs.declared.due.Due.{Due}
-use Rattle.fields.specs.Heads.{field-asked, size-at, may, next-byte, Took}
+use Rattle.fields.specs.Heads.{field-asked, size-at, may, next-offset, Took}
 use Rattle.fields.specs.Questions.{first-no}
 use Rattle.fields.proofs.Lengths.{parts-from-may}
 
@@ -97,8 +97,8 @@ none-left : (b : Bool) (at : ℕ) → None ≡ cond b None (Some at) → b ≡ t
 none-left true at e = refl
 none-left false at e = absurd (grind arith)
 
-pub byte-left : (bs : List ℕ) (at p : ℕ) → Some p ≡ next-byte bs at → (eqb at (length bs) ≡ false) × (p ≡ at)
+pub byte-left : (bs : List ℕ) (at p : ℕ) → Some p ≡ next-offset bs at → (eqb at (length bs) ≡ false) × (p ≡ at)
 byte-left bs at p e = one-left (eqb at (length bs)) p at e
 
-pub no-byte-left : (bs : List ℕ) (at : ℕ) → None ≡ next-byte bs at → eqb at (length bs) ≡ true
+pub no-byte-left : (bs : List ℕ) (at : ℕ) → None ≡ next-offset bs at → eqb at (length bs) ≡ true
 no-byte-left bs at e = none-left (eqb at (length bs)) at e

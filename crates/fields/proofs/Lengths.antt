@@ -1,4 +1,4 @@
--- The length that a field may have. Assumes nothing.
+-- The length that a field may have.
 use mathlib.Core.Path.{_≡_, sym, ap, _∙_}
 use mathlib.Core.Bool.{Bool, true, _&&_}
 use Prim.Native.Nat.{ℕ, _/_, _%_}

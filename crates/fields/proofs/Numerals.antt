@@ -1,4 +1,4 @@
--- Numbers, the highest byte first. Assumes nothing.
+-- Numbers, the highest byte first.
 use mathlib.Core.Path.{_≡_, refl, sym, ap, subst, _∙_}
 use mathlib.Core.List.{List, [], _∷_, _++_}
 use Prim.Native.Nat.{ℕ, zero, suc, _+_, _*_, _/_, _%_, _^_, _≤_, _<_}

@@ -1,4 +1,4 @@
--- A field that stands in a file behind other bytes answers questions 1 to 4 with yes. Assumes nothing.
+-- A field that stands in a file behind other bytes answers questions 1 to 4 with yes.
 use mathlib.Core.Path.{_≡_, refl, ap, _∙_}
 use mathlib.Core.List.{List, _∷_, _++_}
 use Prim.Native.Nat.{ℕ, _+_, _/_, _%_}

@@ -1,4 +1,4 @@
--- What asking for room tells. Assumes nothing.
+-- What asking for room tells.
 use mathlib.Core.Path.{_≡_, refl}
 use mathlib.Core.Bool.{Bool, true, false, cond}
 use Prim.Native.Nat.{ℕ, _≤_, _<_}

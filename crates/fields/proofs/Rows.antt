@@ -1,4 +1,4 @@
--- Rows of numbers, of items and of fields: how long they are, how they are cut, and that their bytes tell them apart. Assumes nothing.
+-- Rows of numbers, of items and of fields: how long they are, how they are cut, and that their bytes tell them apart.
 use mathlib.Core.Path.{_≡_, refl, sym, ap, _∙_}
 use mathlib.Core.List.{List, [], _∷_, _++_, append-assoc, append-nil}
 use Prim.Native.Nat.{ℕ, _+_, _*_, _/_, _%_, _≤_, _<_}

@@ -1,11 +1,11 @@
--- How numbers and fields stand in bytes. Assumes nothing.
+-- How numbers and fields stand in bytes.
 use mathlib.Core.Path.{_≡_}
 use mathlib.Core.List.{List, [], _∷_, _++_}
 use Prim.Native.Nat.{ℕ, zero, suc, _+_, _/_, _%_, _^_, _≤_, _<_}
 use lib.ListN.{length}
 use Rattle.std.specs.Joined.{joined}
 
--- n in w bytes, the highest first: that one takes what the others leave, so be w is one to one
+-- n in w bytes, the highest first: that one takes what the others leave, so that no two numbers have the same bytes, for any w but 0
 unfoldable pub be : ℕ → ℕ → List ℕ
 be zero n = []
 be (suc zero) n = n ∷ []

@@ -1,4 +1,4 @@
--- What is asked of a field at an offset, and where reading it leads. Assumes nothing.
+-- What is asked of a field at an offset, and where reading it leads.
 use mathlib.Core.Path.{_≡_}
 use mathlib.Core.Bool.{Bool, cond, _&&_}
 use mathlib.Core.List.{List, [], _∷_, _++_}
@@ -51,6 +51,6 @@ pub record Stopped (bs : List ℕ) (p q : ℕ) (d : Due) (e : FieldFault) : Type
   pub asked : first-no (field-asked bs p d) ≡ Some e
   pub stays : q ≡ p
 
--- the byte that follows at p, unless none does
-abbrev pub next-byte : List ℕ → ℕ → Option ℕ
-next-byte bs p = cond (eqb p (length bs)) None (Some p)
+-- the offset p of the next byte, unless the bytes end there
+abbrev pub next-offset : List ℕ → ℕ → Option ℕ
+next-offset bs p = cond (eqb p (length bs)) None (Some p)

@@ -1,4 +1,4 @@
--- Bytes put among others. Assumes nothing.
+-- Bytes put among others.
 use mathlib.Core.Path.{_≡_}
 use mathlib.Core.List.{List, _++_}
 use Prim.Native.Nat.{ℕ, _+_, _≤_, _<_}

@@ -1,4 +1,4 @@
--- Questions asked in order. Assumes nothing.
+-- Questions asked in order.
 use mathlib.Core.Bool.{Bool, cond}
 use mathlib.Core.List.{List, [], _∷_}
 use Rattle.std.specs.declared.option.Option.{Option}

@@ -1,4 +1,4 @@
--- What is told of each fault: the number of its question, its layer and its place. Assumes nothing.
+-- What is told of each fault: the number of its question, its layer and its place.
 use Rattle.fields.specs.declared.fault.FieldFault.{FieldFault}
 use Rattle.fields.specs.declared.fault.FieldFault.the-variants.{NoHead, WrongTag, WrongLength, CutShort}
 use Rattle.fields.specs.declared.refusal.Layer.the-variants as layer

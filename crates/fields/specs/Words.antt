@@ -1,4 +1,4 @@
--- The printed words of a refusal. Assumes nothing.
+-- The printed words of a refusal.
 use mathlib.Core.List.{List, _++_}
 use Prim.Native.Nat.{ℕ}
 use lib.Chars.{codes}

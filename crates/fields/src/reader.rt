@@ -4,7 +4,7 @@ ghost use Prim.Native.Nat.{_≤_};
 ghost use lib.ListN.{length};
 ghost use denote.Ref.{now};
 ghost use Rattle.std.specs.Results.{Cases};
-ghost use Rattle.fields.specs.Heads.{Took, Stopped, next-byte};
+ghost use Rattle.fields.specs.Heads.{Took, Stopped, next-offset};
 use crate::due::Due;
 use crate::fault::FieldFault;
 
@@ -49,7 +49,7 @@ impl<'a> Reader<'a> {
 
     // The offset of the next byte, unless none is left.
     pub fn next_offset(&self) -> Option<usize>
-        ensures { λ r. ⌜ r ≡ next-byte (now (self .entry) .bytes .now) (now (self .entry) .at) ⌝ }
+        ensures { λ r. ⌜ r ≡ next-offset (now (self .entry) .bytes .now) (now (self .entry) .at) ⌝ }
     {
         if self.at == self.bytes.len() {
             None

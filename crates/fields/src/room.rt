@@ -7,7 +7,7 @@ ghost use Rattle.fields.specs.Room.{room-asked};
 use crate::refusal::Layer;
 use crate::refusal::Refusal;
 
-// A month file and a line of output are never longer.
+// One size for whatever is written into a lent buffer; the longest month file has 407 bytes.
 const ROOM: usize = 1024;
 
 // A buffer with less room, by its length.

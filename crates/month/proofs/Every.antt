@@ -1,4 +1,4 @@
--- What is asked of each element of a list. Assumes nothing.
+-- What is asked of each element of a list.
 use mathlib.Core.Path.{_≡_, refl, sym, ap, _∙_}
 use mathlib.Core.Bool.{Bool, true, false, _&&_}
 use mathlib.Core.List.{List, [], _∷_}

@@ -1,4 +1,4 @@
--- How large a month's lifeline discount is. Assumes nothing.
+-- How large a month's lifeline discount is.
 use mathlib.Core.Path.{_≡_, subst, sym}
 use mathlib.Core.List.{List}
 use Prim.Native.Nat.{ℕ, _+_, _*_, _≤_, _<_}

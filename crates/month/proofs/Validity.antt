@@ -1,4 +1,4 @@
--- Questions 6 to 11 answered yes, and valid figures, are the same. Assumes nothing.
+-- Questions 6 to 11 answered yes, and valid figures, are the same.
 use mathlib.Core.Path.{_≡_, refl, sym, _∙_}
 use mathlib.Core.Bool.{Bool, true, false, _&&_}
 use mathlib.Core.List.{List, [], _∷_}
@@ -24,10 +24,10 @@ use Rattle.month.specs.declared.parts.Source.{Source}
 use Rattle.month.specs.declared.parts.Bracket.{Bracket}
 use Rattle.month.specs.declared.statement.Statement.{Statement}
 use Rattle.month.specs.Amounts.{cost-of, taken-of, passed-of, kwh-of, sold}
-use Rattle.month.specs.Asked.{centavos, kwh, million, source-within, energy-within, exempt-within, bracket-within, passed-within, limits-asked, rules-asked, month-asked}
+use Rattle.month.specs.Asked.{centavos-within, kwh-within, million-within, source-within, energy-within, exempt-within, bracket-within, passed-on-within, limits-asked, rules-asked, month-asked}
 use Rattle.month.specs.Bounds.{Bounded}
 use Rattle.month.specs.Figures.{Figures, Counted}
-use Rattle.month.specs.Making.{Made, Refused}
+use Rattle.month.specs.Making.{Made, NotMade}
 use Rattle.month.specs.Stated.{stated}
 use Rattle.month.specs.Valid.{SourceWithin, BracketWithin, Within, Valid}
 use Rattle.month.specs.View.{figures}
@@ -43,24 +43,24 @@ module _ (x y z : Bool) where
 
 source-tells : (s : Source) → source-within s ≡ true → SourceWithin s
 source-tells s e =
-    let t = three-parts (centavos (s .cost)) (centavos (s .taken)) (centavos (s .passed)) e in
+    let t = three-parts (centavos-within (s .cost)) (centavos-within (s .taken)) (centavos-within (s .passed)) e in
     record { cost-most = leb-true _ _ (t .0); taken-most = leb-true _ _ (t .1); passed-most = leb-true _ _ (t .2) }
 
 source-tests : (s : Source) → SourceWithin s → source-within s ≡ true
-source-tests s w = three-from (centavos (s .cost)) (centavos (s .taken)) (centavos (s .passed)) (le-leb _ _ (w .cost-most)) (le-leb _ _ (w .taken-most)) (le-leb _ _ (w .passed-most))
+source-tests s w = three-from (centavos-within (s .cost)) (centavos-within (s .taken)) (centavos-within (s .passed)) (le-leb _ _ (w .cost-most)) (le-leb _ _ (w .taken-most)) (le-leb _ _ (w .passed-most))
 
 bracket-tells : (b : Bracket) → bracket-within b ≡ true → BracketWithin b
 bracket-tells b e =
-    let t = three-parts (kwh (b .kwh)) (million (b .customers)) (leb (b .percent) 100) e in
+    let t = three-parts (kwh-within (b .kwh)) (million-within (b .customers)) (leb (b .percent) 100) e in
     record { kwh-most = leb-true _ _ (t .0); customers-most = leb-true _ _ (t .1); percent-most = leb-true _ _ (t .2) }
 
 bracket-tests : (b : Bracket) → BracketWithin b → bracket-within b ≡ true
-bracket-tests b w = three-from (kwh (b .kwh)) (million (b .customers)) (leb (b .percent) 100) (le-leb _ _ (w .kwh-most)) (le-leb _ _ (w .customers-most)) (le-leb _ _ (w .percent-most))
+bracket-tests b w = three-from (kwh-within (b .kwh)) (million-within (b .customers)) (leb (b .percent) 100) (le-leb _ _ (w .kwh-most)) (le-leb _ _ (w .customers-most)) (le-leb _ _ (w .percent-most))
 
-passed-tells : (s : Source) → passed-within s ≡ true → s .passed ≤ s .taken
+passed-tells : (s : Source) → passed-on-within s ≡ true → s .passed ≤ s .taken
 passed-tells s e = leb-true _ _ e
 
-passed-tests : (s : Source) → s .passed ≤ s .taken → passed-within s ≡ true
+passed-tests : (s : Source) → s .passed ≤ s .taken → passed-on-within s ≡ true
 passed-tests s h = le-leb _ _ h
 
 module _ (f : Figures) where
@@ -70,9 +70,9 @@ module _ (f : Figures) where
       let month = and-parts (leb 1 (f .month)) (leb (f .month) 36) (y .0) in
       let rest = y .1 .1 .1 .1 in
       let five = and-parts (energy-within (f .energy)) (exempt-within (f .exempt)) (rest .0) in
-      let energy = three-parts (kwh (f .energy .input)) (kwh (f .energy .substation)) (kwh (f .energy .feeder)) (five .0) in
-      let exempt = and-parts (kwh (f .exempt .generation)) (kwh (f .exempt .transmission)) (five .1) in
-      let sales = three-parts (kwh (f .sales .nonlifeline)) (million (f .sales .rate)) (million (f .sales .metering)) (rest .1 .1 .0) in
+      let energy = three-parts (kwh-within (f .energy .input)) (kwh-within (f .energy .substation)) (kwh-within (f .energy .feeder)) (five .0) in
+      let exempt = and-parts (kwh-within (f .exempt .generation)) (kwh-within (f .exempt .transmission)) (five .1) in
+      let sales = three-parts (kwh-within (f .sales .nonlifeline)) (million-within (f .sales .rate)) (million-within (f .sales .metering)) (rest .1 .1 .0) in
       record {
         month-least = leb-true _ _ (month .0);
         month-most = leb-true _ _ (month .1);
@@ -82,8 +82,8 @@ module _ (f : Figures) where
         input-most = leb-true _ _ (energy .0);
         substation-most = leb-true _ _ (energy .1);
         feeder-most = leb-true _ _ (energy .2);
-        ungenerated-most = leb-true _ _ (exempt .0);
-        untransmitted-most = leb-true _ _ (exempt .1);
+        generation-exempt-most = leb-true _ _ (exempt .0);
+        transmission-exempt-most = leb-true _ _ (exempt .1);
         brackets = all-from-every bracket-within BracketWithin bracket-tells (f .brackets) (rest .1 .0);
         nonlifeline-most = leb-true _ _ (sales .0);
         rate-most = leb-true _ _ (sales .1);
@@ -100,10 +100,10 @@ module _ (f : Figures) where
         (
           source-tests (f .transmission) (w .transmission),
           (
-            and-from (energy-within (f .energy)) (exempt-within (f .exempt)) (three-from (kwh (f .energy .input)) (kwh (f .energy .substation)) (kwh (f .energy .feeder)) (le-leb _ _ (w .input-most)) (le-leb _ _ (w .substation-most)) (le-leb _ _ (w .feeder-most))) (and-from (kwh (f .exempt .generation)) (kwh (f .exempt .transmission)) (le-leb _ _ (w .ungenerated-most)) (le-leb _ _ (w .untransmitted-most))),
+            and-from (energy-within (f .energy)) (exempt-within (f .exempt)) (three-from (kwh-within (f .energy .input)) (kwh-within (f .energy .substation)) (kwh-within (f .energy .feeder)) (le-leb _ _ (w .input-most)) (le-leb _ _ (w .substation-most)) (le-leb _ _ (w .feeder-most))) (and-from (kwh-within (f .exempt .generation)) (kwh-within (f .exempt .transmission)) (le-leb _ _ (w .generation-exempt-most)) (le-leb _ _ (w .transmission-exempt-most))),
             (
               every-from-all bracket-within BracketWithin bracket-tests (f .brackets) (w .brackets),
-              (three-from (kwh (f .sales .nonlifeline)) (million (f .sales .rate)) (million (f .sales .metering)) (le-leb _ _ (w .nonlifeline-most)) (le-leb _ _ (w .rate-most)) (le-leb _ _ (w .metering-most)), tt),
+              (three-from (kwh-within (f .sales .nonlifeline)) (million-within (f .sales .rate)) (million-within (f .sales .metering)) (le-leb _ _ (w .nonlifeline-most)) (le-leb _ _ (w .rate-most)) (le-leb _ _ (w .metering-most)), tt),
             ),
           ),
         ),
@@ -120,13 +120,13 @@ module _ (f : Figures) where
     taken = sources-sum taken-of (λ s h. h .taken-most) few w;
     passed = sources-sum passed-of (λ s h. h .passed-most) few w;
     pilferage = w .pilferage-most;
-    line-cost = w .transmission .cost-most;
-    line-taken = w .transmission .taken-most;
-    line-passed = w .transmission .passed-most;
+    transmission-cost-most = w .transmission .cost-most;
+    transmission-taken-most = w .transmission .taken-most;
+    transmission-passed-most = w .transmission .passed-most;
     substation = w .substation-most;
     feeder = w .feeder-most;
-    ungenerated = w .ungenerated-most;
-    untransmitted = w .untransmitted-most;
+    generation-exempt = w .generation-exempt-most;
+    transmission-exempt = w .transmission-exempt-most;
     sales = omega (arith, few .few-brackets, w .nonlifeline-most, sumBy-le kwh-of 10000000 (f .brackets) (all-weaker BracketWithin (λ b. b .kwh ≤ 10000000) (λ b h. h .kwh-most) (f .brackets) (w .brackets)));
   }
 
@@ -142,7 +142,7 @@ module _ (f : Figures) where
       record {
         counted = few;
         within = within-from-yes limits;
-        sources-passed = all-from-every passed-within (λ s. s .passed ≤ s .taken) passed-tells (f .sources) (y .0);
+        sources-passed = all-from-every passed-on-within (λ s. s .passed ≤ s .taken) passed-tells (f .sources) (y .0);
         transmission-passed = leb-true _ _ (y .1 .0);
         costs-most = leb-true _ _ (y .1 .1 .0);
         generation-recovered = leb-true _ _ (rest .0);
@@ -157,7 +157,7 @@ module _ (f : Figures) where
 
   rules-from-valid : Valid f → first-no (rules-asked f) ≡ None
   rules-from-valid v = none-from-yes (rules-asked f) (
-    every-from-all passed-within (λ s. s .passed ≤ s .taken) passed-tests (f .sources) (v .sources-passed),
+    every-from-all passed-on-within (λ s. s .passed ≤ s .taken) passed-tests (f .sources) (v .sources-passed),
     (
       le-leb _ _ (v .transmission-passed),
       (
@@ -201,6 +201,6 @@ pub month-bounded : (m : Month) → Bounded (figures m)
 month-bounded m = let v = month-valid m in bounded (figures m) (v .counted) (v .within)
 
 -- valid figures are never refused
-pub valid-made : (s : Statement) (r : Result Month MonthFault) → Cases r (λ m. Made s m) (λ e. Refused s e) → Valid (stated s) → isOk r ≡ true
+pub valid-made : (s : Statement) (r : Result Month MonthFault) → Cases r (λ m. Made s m) (λ e. NotMade s e) → Valid (stated s) → isOk r ≡ true
 valid-made s (Ok m) made v = refl
 valid-made s (Err e) refused v = absurd (some-none (sym (refused .first) ∙ yes-from-valid (stated s) v))

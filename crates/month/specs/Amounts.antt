@@ -1,4 +1,4 @@
--- What follows from a month's figures. Assumes nothing.
+-- What follows from a month's figures.
 use mathlib.Core.Bool.{cond}
 use Prim.Native.Nat.{ℕ, _+_, _-_, _*_, _/_}
 use lib.Dec.{ltb}

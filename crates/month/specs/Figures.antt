@@ -1,4 +1,4 @@
--- What a month states, as plain numbers and lists. Assumes nothing.
+-- What a month states, as plain numbers and lists.
 use mathlib.Core.List.{List}
 use Prim.Native.Nat.{ℕ, _≤_}
 use lib.ListN.{length}

@@ -1,4 +1,4 @@
--- What making a month of a statement may answer. Assumes nothing.
+-- What making a month of a statement may answer.
 use mathlib.Core.Path.{_≡_}
 use Rattle.std.specs.declared.option.Option.the-variants.{Some}
 use Rattle.fields.specs.Questions.{first-no}
@@ -15,5 +15,5 @@ pub record Made (s : Statement) (m : Month) : Type 0 where
   pub same : m .statement ≡ s
 
 -- the first of the questions 6 to 11 that is answered no
-pub record Refused (s : Statement) (e : MonthFault) : Type 0 where
+pub record NotMade (s : Statement) (e : MonthFault) : Type 0 where
   pub first : first-no (month-asked (stated s)) ≡ Some e

@@ -1,4 +1,4 @@
--- The figures of a statement. Assumes nothing.
+-- The figures of a statement.
 use Rattle.bounded.specs.View.{held}
 use Rattle.month.specs.declared.statement.Statement.{Statement}
 use Rattle.month.specs.Figures.{Figures}

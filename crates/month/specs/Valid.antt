@@ -1,4 +1,4 @@
--- The facts that questions 6 to 11 ask, in plain numbers: a month that exists has them all. Assumes nothing.
+-- The facts that questions 6 to 11 ask, in plain numbers: a month that exists has them all.
 use Prim.Native.Nat.{_+_, _*_, _≤_, _<_}
 use Rattle.std.specs.shelf.Lists.{All, sumBy}
 use Rattle.month.specs.declared.parts.Source.{Source}
@@ -26,8 +26,8 @@ pub record Within (f : Figures) : Type 0 where
   pub input-most : f .energy .input ≤ 10000000
   pub substation-most : f .energy .substation ≤ 10000000
   pub feeder-most : f .energy .feeder ≤ 10000000
-  pub ungenerated-most : f .exempt .generation ≤ 10000000
-  pub untransmitted-most : f .exempt .transmission ≤ 10000000
+  pub generation-exempt-most : f .exempt .generation ≤ 10000000
+  pub transmission-exempt-most : f .exempt .transmission ≤ 10000000
   pub brackets : All BracketWithin (f .brackets)
   pub nonlifeline-most : f .sales .nonlifeline ≤ 10000000
   pub rate-most : f .sales .rate ≤ 1000000

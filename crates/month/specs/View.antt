@@ -1,4 +1,4 @@
--- What a month is: its figures. Assumes nothing.
+-- What a month is: its figures.
 use Rattle.month.specs.declared.month.Month.{Month}
 use Rattle.month.specs.Figures.{Figures}
 use Rattle.month.specs.Stated.{stated}

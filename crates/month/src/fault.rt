@@ -10,24 +10,31 @@ use fields::FieldFaultPartialEq;
 use fields::Layer;
 use fields::Refusal;
 
-// A field that cannot be read, or the offset of the first byte past the last field.
 #[derive(Clone, Copy, Debug, PartialEq, Eq)]
 pub enum FileFault {
+    // A due field cannot be read.
     Field(FieldFault),
+    // Bytes follow the last field, from this offset on.
     GoesOn(usize),
 }
 
-// A fault of the file, or the tag of the field whose figures are refused: a number outside its limit, a discount passed on above the
-// one taken, source costs that sum too high, a cost to recover below zero, energy figures or sales figures that do not fit together.
+// All but the first hold the tag of the field that they are told of.
 #[derive(Clone, Copy, Debug, PartialEq, Eq)]
 pub enum MonthFault {
+    // The bytes are no month file.
     File(FileFault),
+    // A number is outside its limit.
     OutsideLimit(u8),
-    PassedOn(u8),
-    SourceCosts(u8),
-    BelowZero(u8),
-    EnergyFigures(u8),
-    SalesFigures(u8),
+    // A discount passed on is above the discount taken.
+    PassedOnAboveTaken(u8),
+    // The source costs sum to more than a single cost may be.
+    CostsTooHigh(u8),
+    // The cost to recover is below zero.
+    CostBelowZero(u8),
+    // More than half the input is lost, or none of it is charged generation, or transmission.
+    EnergyInconsistent(u8),
+    // Nothing is sold at the full rate, or more is sold than the input that is charged.
+    SalesInconsistent(u8),
 }
 
 impl FileFault {
@@ -52,11 +59,11 @@ impl MonthFault {
         let (number, tag) = match *self {
             MonthFault::File(fault) => return fault.refusal(),
             MonthFault::OutsideLimit(tag) => (6, tag),
-            MonthFault::PassedOn(tag) => (7, tag),
-            MonthFault::SourceCosts(tag) => (8, tag),
-            MonthFault::BelowZero(tag) => (9, tag),
-            MonthFault::EnergyFigures(tag) => (10, tag),
-            MonthFault::SalesFigures(tag) => (11, tag),
+            MonthFault::PassedOnAboveTaken(tag) => (7, tag),
+            MonthFault::CostsTooHigh(tag) => (8, tag),
+            MonthFault::CostBelowZero(tag) => (9, tag),
+            MonthFault::EnergyInconsistent(tag) => (10, tag),
+            MonthFault::SalesInconsistent(tag) => (11, tag),
         };
         Refusal {
             number,

@@ -11,16 +11,16 @@ use crate::parts::Sales;
 use crate::parts::Source;
 use crate::statement::Statement;
 
-pub(crate) const CENTAVOS: u64 = 5_000_000_000;
+pub(crate) const MAX_CENTAVOS: u64 = 5_000_000_000;
 
-const KWH: u64 = 10_000_000;
+const MAX_KWH: u64 = 10_000_000;
 
 // Customers, the full rate and the metering charge.
-const MILLION: u64 = 1_000_000;
+const MAX_COUNT: u64 = 1_000_000;
 
-const PERCENT: u64 = 100;
+const MAX_PERCENT: u64 = 100;
 
-const MONTHS: u64 = 36;
+const MAX_MONTH: u64 = 36;
 
 // Figures that have limits.
 trait Limited {
@@ -34,7 +34,7 @@ impl Limited for Source as SourceLimited {
     ghost limited = { source-within };
 
     fn within(&self) -> bool {
-        self.cost <= CENTAVOS && self.taken <= CENTAVOS && self.passed <= CENTAVOS
+        self.cost <= MAX_CENTAVOS && self.taken <= MAX_CENTAVOS && self.passed <= MAX_CENTAVOS
     }
 }
 
@@ -42,7 +42,7 @@ impl Limited for Energy as EnergyLimited {
     ghost limited = { energy-within };
 
     fn within(&self) -> bool {
-        self.input <= KWH && self.substation <= KWH && self.feeder <= KWH
+        self.input <= MAX_KWH && self.substation <= MAX_KWH && self.feeder <= MAX_KWH
     }
 }
 
@@ -50,7 +50,7 @@ impl Limited for Exempt as ExemptLimited {
     ghost limited = { exempt-within };
 
     fn within(&self) -> bool {
-        self.generation <= KWH && self.transmission <= KWH
+        self.generation <= MAX_KWH && self.transmission <= MAX_KWH
     }
 }
 
@@ -58,7 +58,7 @@ impl Limited for Bracket as BracketLimited {
     ghost limited = { bracket-within };
 
     fn within(&self) -> bool {
-        self.kwh <= KWH && self.customers <= MILLION && self.percent <= PERCENT
+        self.kwh <= MAX_KWH && self.customers <= MAX_COUNT && self.percent <= MAX_PERCENT
     }
 }
 
@@ -66,7 +66,7 @@ impl Limited for Sales as SalesLimited {
     ghost limited = { sales-within };
 
     fn within(&self) -> bool {
-        self.nonlifeline <= KWH && self.rate <= MILLION && self.metering <= MILLION
+        self.nonlifeline <= MAX_KWH && self.rate <= MAX_COUNT && self.metering <= MAX_COUNT
     }
 }
 
@@ -86,9 +86,9 @@ impl Statement {
     pub(crate) fn limits(&self) -> [(bool, MonthFault); 7]
         ensures { λ r. ⌜ r ≡ limits-asked (stated (now (self .entry))) ⌝ }
     {
-        let month = 1 <= self.month && self.month <= MONTHS;
+        let month = 1 <= self.month && self.month <= MAX_MONTH;
         let sources = all_within(self.sources.as_slice());
-        let pilferage = self.pilferage <= CENTAVOS;
+        let pilferage = self.pilferage <= MAX_CENTAVOS;
         let transmission = self.transmission.within();
         let energy = self.energy.within() && self.exempt.within();
         let brackets = all_within(self.brackets.as_slice());

@@ -10,7 +10,8 @@ use crate::statement::Statement;
 mod amounts;
 mod making;
 
-// Question 6, and questions 7 to 11, are answered yes.
+// Question 6, and questions 7 to 11, are answered yes: no fault is the first. A ghost field wants a fact with one proof, such as an
+// equation of two truth values.
 #[derive(Clone, Copy)]
 pub struct Month {
     statement: Statement,

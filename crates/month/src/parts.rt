@@ -10,7 +10,7 @@ pub struct Source {
 }
 
 // Energy in kWh: the input, the sub-transmission and substation loss, and the feeder loss.
-#[derive(Clone, Copy, Default)]
+#[derive(Clone, Copy)]
 pub struct Energy {
     pub input: u64,
     pub substation: u64,
@@ -18,7 +18,7 @@ pub struct Energy {
 }
 
 // Input in kWh that is charged no generation, and no transmission.
-#[derive(Clone, Copy, Default)]
+#[derive(Clone, Copy)]
 pub struct Exempt {
     pub generation: u64,
     pub transmission: u64,
@@ -33,7 +33,7 @@ pub struct Bracket {
 }
 
 // The non-lifeline kWh, the full rate per kWh and the metering charge per customer, both in units of a ten-thousandth of a peso.
-#[derive(Clone, Copy, Default)]
+#[derive(Clone, Copy)]
 pub struct Sales {
     pub nonlifeline: u64,
     pub rate: u64,

@@ -95,7 +95,7 @@ fn full_list() -> Result<(), Fail> {
 }
 
 #[test]
-fn frame_by_frame() -> Result<(), Fail> {
+fn field_by_field() -> Result<(), Fail> {
     let mut reader = Reader::new(b"\x10\x00\x02\xab\xcd\x11");
     let any = Due {
         tag: 16,

@@ -18,37 +18,37 @@ pub(crate) impl fmt::Display for Explanation as ExplanationDisplay {
                 let limit = limit_of(tag);
                 write!(f, "A number in field {tag} is outside its limit: {limit}.")
             }
-            MonthFault::PassedOn(tag) => {
+            MonthFault::PassedOnAboveTaken(tag) => {
                 write!(
                     f,
                     "In field {tag} a discount passed on is above the discount taken."
                 )
             }
-            MonthFault::SourceCosts(tag) => {
+            MonthFault::CostsTooHigh(tag) => {
                 write!(
                     f,
                     "The source costs in field {tag} sum to more than 5000000000 centavos."
                 )
             }
-            MonthFault::BelowZero(2) => {
+            MonthFault::CostBelowZero(2) => {
                 write!(
                     f,
                     "The cost of generation G is below zero: P and half the discounts kept are more than the source costs."
                 )
             }
-            MonthFault::BelowZero(_) => {
+            MonthFault::CostBelowZero(_) => {
                 write!(
                     f,
                     "The cost of transmission T is below zero: half the discount kept is more than the cost."
                 )
             }
-            MonthFault::EnergyFigures(tag) => {
+            MonthFault::EnergyInconsistent(tag) => {
                 write!(
                     f,
                     "In field {tag} A + F is more than half of I, or X or Y is not below I."
                 )
             }
-            MonthFault::SalesFigures(tag) => {
+            MonthFault::SalesInconsistent(tag) => {
                 write!(
                     f,
                     "In field {tag} N is 0, or all sales S are more than I - X or I - Y."

@@ -1,4 +1,4 @@
--- What reading a file answers. Assumes nothing.
+-- What reading a file answers.
 use mathlib.Core.Path.{_≡_, sym, ap, subst, _∙_}
 use mathlib.Core.List.{List, []}
 use Prim.Native.Nat.{ℕ}
@@ -41,7 +41,7 @@ blank = record {
 module _ (file : List ℕ) where
   pub refused-file : (e : FileFault) → first-no (file-asked file) ≡ Some e → Refused file (File e)
   refused-file e is = record {
-    stated = blank;
+    asked-of = blank;
     states = λ none. absurd (some-none (sym is ∙ none));
     first = first-no-stop (carried File (file-asked file)) (month-asked blank) (File e) (carried-some File (file-asked file) e is);
   }
@@ -50,9 +50,9 @@ module _ (file : List ℕ) where
   past-file : (f : Figures) → first-no (file-asked file) ≡ None → first-no (asked file f) ≡ first-no (month-asked f)
   past-file f none = first-no-after (carried File (file-asked file)) (month-asked f) (carried-none File (file-asked file) none)
 
-  pub refused-month : (s : Statement) (e : MonthFault) → file ≡ file-of (stated s) → making.Refused s e → Refused file e
+  pub refused-month : (s : Statement) (e : MonthFault) → file ≡ file-of (stated s) → making.NotMade s e → Refused file e
   refused-month s e is refused = record {
-    stated = stated s;
+    asked-of = stated s;
     states = λ _. record { counted = counted s; is = is };
     first = past-file (stated s) (asked-none file (stated s) (counted s) is) ∙ refused .first;
   }
@@ -67,8 +67,8 @@ module _ (file : List ℕ) where
   valid-file (Ok m) accepted f valid is = file-same (figures m) f (sym (accepted .is) ∙ is)
   valid-file (Err e) refused f valid is =
       let none = asked-none file f (valid .counted) is in
-      let same = file-same (refused .stated) f (sym (refused .states none .is) ∙ is) in
-      some-none (sym (refused .first) ∙ past-file (refused .stated) none ∙ ap (λ g. first-no (month-asked g)) same ∙ yes-from-valid f valid)
+      let same = file-same (refused .asked-of) f (sym (refused .states none .is) ∙ is) in
+      some-none (sym (refused .first) ∙ past-file (refused .asked-of) none ∙ ap (λ g. first-no (month-asked g)) same ∙ yes-from-valid f valid)
 
   -- the first question of the month answered no comes back as it is
   pub month-fault : (r : Result Month MonthFault) → Cases r (λ m. Accepted file m) (λ e. Refused file e) → (f : Figures) (e : MonthFault) → States file f → first-no (month-asked f) ≡ Some e → r ≡ Err e
@@ -77,8 +77,8 @@ module _ (file : List ℕ) where
       absurd (some-none (sym is ∙ ap (λ g. first-no (month-asked g)) (sym same) ∙ yes-from-valid (figures m) (accepted .valid)))
   month-fault (Err d) refused f e states is =
       let none = asked-none file f (states .counted) (states .is) in
-      let same = file-same (refused .stated) f (sym (refused .states none .is) ∙ states .is) in
-      let told : Some d ≡ Some e = sym (refused .first) ∙ past-file (refused .stated) none ∙ ap (λ g. first-no (month-asked g)) same ∙ is in
+      let same = file-same (refused .asked-of) f (sym (refused .states none .is) ∙ states .is) in
+      let told : Some d ≡ Some e = sym (refused .first) ∙ past-file (refused .asked-of) none ∙ ap (λ g. first-no (month-asked g)) same ∙ is in
       let whole : d ≡ e = cc in
       ap (λ x. Err x) whole
 
@@ -86,6 +86,6 @@ module _ (file : List ℕ) where
   pub file-fault : (r : Result Month MonthFault) → Cases r (λ m. Accepted file m) (λ e. Refused file e) → (e : FileFault) → first-no (file-asked file) ≡ Some e → r ≡ Err (File e)
   file-fault (Ok m) accepted e is = absurd (some-none (sym is ∙ asked-none file (figures m) (accepted .valid .counted) (accepted .is)))
   file-fault (Err d) refused e is =
-      let told : Some d ≡ Some (File e) = sym (refused .first) ∙ first-no-stop (carried File (file-asked file)) (month-asked (refused .stated)) (File e) (carried-some File (file-asked file) e is) in
+      let told : Some d ≡ Some (File e) = sym (refused .first) ∙ first-no-stop (carried File (file-asked file)) (month-asked (refused .asked-of)) (File e) (carried-some File (file-asked file) e is) in
       let whole : d ≡ File e = cc in
       ap (λ x. Err x) whole

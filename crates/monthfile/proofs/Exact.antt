@@ -1,4 +1,4 @@
--- A file states one month's figures: the values in it tell them, and no other figures have the same file. Assumes nothing.
+-- A file states one month's figures: the values in it tell them, and no other figures have the same file.
 use mathlib.Core.Path.{_≡_, refl, ap, _∙_}
 use mathlib.Core.List.{List, [], _∷_}
 use Prim.Native.Nat.{ℕ}

@@ -1,4 +1,4 @@
--- How long the values of a month file are. Assumes nothing.
+-- How long the values of a month file are.
 use mathlib.Core.Path.{_≡_, ap, _∙_}
 use mathlib.Core.List.{List}
 use Prim.Native.Nat.{ℕ, _*_}

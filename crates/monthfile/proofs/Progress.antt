@@ -1,4 +1,4 @@
--- A reader that passes from field to field of a month file. Assumes nothing.
+-- A reader that passes from field to field of a month file.
 use mathlib.Core.Path.{_≡_, refl, sym, ap, subst, _∙_}
 use mathlib.Core.Bool.{true, false}
 use mathlib.Core.List.{List, [], _∷_, _++_, map, append-assoc, append-nil}
@@ -15,7 +15,7 @@ use Rattle.std.specs.declared.option.Option.the-variants.{Some, None}
 use Rattle.fields.specs.declared.due.Due.{Due}
 use Rattle.fields.specs.declared.fault.FieldFault.{FieldFault}
 use Rattle.fields.specs.Bytes.{field-of, fields-of}
-use Rattle.fields.specs.Heads.{field-asked, size-at, next-byte, Took, Stopped, Parts}
+use Rattle.fields.specs.Heads.{field-asked, size-at, next-offset, Took, Stopped, Parts}
 use Rattle.fields.specs.Questions.{first-no, carried}
 use Rattle.fields.proofs.Asked.{first-no-after, first-no-stop, carried-none, carried-some}
 use Rattle.fields.proofs.Heads.{byte-left, no-byte-left}
@@ -95,12 +95,12 @@ module _ {file : List ℕ} {values : List (List ℕ)} {i : ℕ} {bytes : List �
     end : asked-from file at (drop i dues) ≡ asked-from file at []
     end = ap (asked-from file at) (drop-all i dues done)
 
-    pub goes-on : (p : ℕ) → Some p ≡ next-byte bytes at → first-no (file-asked file) ≡ Some (GoesOn p)
+    pub goes-on : (p : ℕ) → Some p ≡ next-offset bytes at → first-no (file-asked file) ≡ Some (GoesOn p)
     goes-on p more =
         let left-over = byte-left bytes at p more in
         s .asked ∙ ap first-no end ∙ rw (subst (λ b. eqb at (length b) ≡ false) (s .same) (left-over .0)) (ap (λ n. Some (GoesOn n)) (sym (left-over .1)))
 
-    all-read : None ≡ next-byte bytes at → file ≡ fields-of 1 values
+    all-read : None ≡ next-offset bytes at → file ≡ fields-of 1 values
     all-read ends =
         let stops : at ≡ length file = eqb-true at (length file) (subst (λ b. eqb at (length b) ≡ true) (s .same) (no-byte-left bytes at ends)) in
         s .read ∙ ap (λ l. fields-of 1 (take i values) ++ l) (drop-all at file (omega arith)) ∙ append-nil (fields-of 1 (take i values)) ∙ ap (fields-of 1) (take-all i values (omega (arith, s .seven)))
@@ -119,7 +119,7 @@ seven-of vs long =
     cc
 
 -- all seven fields were read, and the file stops
-module _ {file : List ℕ} {values : List (List ℕ)} {i : ℕ} {bytes : List ℕ} {at : ℕ} (s : Progress file values i bytes at) (done : 7 ≤ i) (ends : None ≡ next-byte bytes at) where
+module _ {file : List ℕ} {values : List (List ℕ)} {i : ℕ} {bytes : List ℕ} {at : ℕ} (s : Progress file values i bytes at) (done : 7 ≤ i) (ends : None ≡ next-offset bytes at) where
   parts-at : (k : ℕ) (v : List ℕ) → v ≡ getD values k [] → k < 7 → Parts (getD dues k no-due) (length v)
   parts-at k v is h = subst (λ w. Parts (getD dues k no-due) (length w)) (sym is) (s .parts k (omega arith))
 

@@ -1,4 +1,4 @@
--- The file of counted figures answers questions 1 to 5 with yes. Assumes nothing.
+-- The file of counted figures answers questions 1 to 5 with yes.
 use mathlib.Core.Path.{_≡_, refl, sym, ap, _∙_}
 use mathlib.Core.List.{List, [], _∷_, _++_, append-assoc, append-nil}
 use Prim.Native.Nat.{ℕ, _+_, _*_, _≤_, _<_}

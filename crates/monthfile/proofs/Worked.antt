@@ -1,4 +1,4 @@
--- Worked examples: the definitions compute them. Assumes nothing.
+-- Worked examples: the definitions compute them.
 use mathlib.Core.Path.{_≡_, refl}
 use mathlib.Core.List.{List, [], _∷_, _++_}
 use Prim.Native.Nat.{ℕ}
@@ -8,7 +8,7 @@ use Rattle.fields.specs.declared.fault.FieldFault.the-variants.{NoHead, WrongLe
 use Rattle.fields.specs.Bytes.{be}
 use Rattle.fields.specs.Questions.{first-no}
 use Rattle.month.specs.declared.fault.FileFault.the-variants.{Field, GoesOn}
-use Rattle.month.specs.declared.fault.MonthFault.the-variants.{EnergyFigures}
+use Rattle.month.specs.declared.fault.MonthFault.the-variants.{EnergyInconsistent}
 use Rattle.month.specs.Amounts.{generation-cost, transmission-cost, sold, discount}
 use Rattle.month.specs.Asked.{month-asked}
 use Rattle.month.specs.Figures.{Figures}
@@ -84,7 +84,7 @@ half-lost : first-no (month-asked (losing 50)) ≡ None
 unfolding losing
 half-lost = refl
 
-more-lost : first-no (month-asked (losing 51)) ≡ Some (EnergyFigures 5)
+more-lost : first-no (month-asked (losing 51)) ≡ Some (EnergyInconsistent 5)
 unfolding losing
 more-lost = refl
 

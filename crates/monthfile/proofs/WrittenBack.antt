@@ -1,4 +1,4 @@
--- What writing a month leaves, and that it gives the file back from which the month was read. Assumes nothing.
+-- What writing a month leaves, and that it gives the file back from which the month was read.
 use mathlib.Core.Path.{_≡_, sym, ap, _∙_}
 use mathlib.Core.List.{List, _++_}
 use Prim.Native.Nat.{ℕ, _+_, _≤_}

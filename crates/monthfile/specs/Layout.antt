@@ -1,4 +1,4 @@
--- The file that states a month's figures. Assumes nothing.
+-- The file that states a month's figures.
 use mathlib.Core.List.{List, [], _∷_}
 use Prim.Native.Nat.{ℕ}
 use Rattle.std.specs.Joined.{joined}

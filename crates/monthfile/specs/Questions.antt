@@ -1,4 +1,4 @@
--- What is asked of a month file, in order. Assumes nothing.
+-- What is asked of a month file, in order.
 use mathlib.Core.Bool.{Bool}
 use mathlib.Core.List.{List, [], _∷_, _++_}
 use Prim.Native.Nat.{ℕ, _+_}

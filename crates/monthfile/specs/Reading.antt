@@ -1,4 +1,4 @@
--- What reading a file may answer. Assumes nothing.
+-- What reading a file may answer.
 use mathlib.Core.Path.{_≡_}
 use mathlib.Core.List.{List}
 use Prim.Native.Nat.{ℕ}
@@ -22,9 +22,9 @@ pub record Accepted (file : List ℕ) (m : Month) : Type 0 where
   pub valid : Valid (figures m)
   pub is : file ≡ file-of (figures m)
 
--- the fault is that of the first question answered no; questions 6 to 11 are asked of the figures that the file states, which it does
--- where 1 to 5 are answered yes
+-- the fault is that of the first question answered no; questions 6 to 11 are asked of some figures, and where 1 to 5 are answered yes
+-- these are the ones that the file states
 pub record Refused (file : List ℕ) (e : MonthFault) : Type 0 where
-  pub stated : Figures
-  pub states : first-no (file-asked file) ≡ None → States file stated
-  pub first : first-no (asked file stated) ≡ Some e
+  pub asked-of : Figures
+  pub states : first-no (file-asked file) ≡ None → States file asked-of
+  pub first : first-no (asked file asked-of) ≡ Some e

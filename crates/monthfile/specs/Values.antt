@@ -1,4 +1,4 @@
--- A whole file, value by value. Assumes nothing.
+-- A whole file, value by value.
 use mathlib.Core.Path.{_≡_}
 use mathlib.Core.List.{List, [], _∷_}
 use Prim.Native.Nat.{ℕ, _%_, _≤_}

@@ -1,4 +1,4 @@
--- What writing a file may leave. Assumes nothing.
+-- What writing a file may leave.
 use mathlib.Core.Path.{_≡_}
 use mathlib.Core.List.{List, _++_}
 use Prim.Native.Nat.{ℕ, _≤_, _<_}

@@ -13,7 +13,7 @@ use month::Energy;
 use month::Exempt;
 
 // The number that a part is.
-pub(crate) fn whole_number(part: &[u8]) -> u64
+pub(crate) fn number_in(part: &[u8]) -> u64
     requires { ⌜ length (now part) ≤ 8 ⌝ }
     ensures { λ r. ⌜ now (part .entry) ≡ be (length (now (part .entry))) r ⌝ }
 {
@@ -26,7 +26,7 @@ pub(crate) fn number_at(part: &[u8], at: usize) -> u64
     requires { ⌜ at + 8 ≤ length (now part) ⌝ }
     ensures { λ r. ⌜ take 8 (drop at (now (part .entry))) ≡ be 8 r ⌝ }
 {
-    whole_number(&part[at..at + 8])
+    number_in(&part[at..at + 8])
 }
 
 pub(crate) fn read_entry<E: Entry>(part: &[u8]) -> E

@@ -36,8 +36,7 @@ impl<T: Copy, const N: usize> UpTo<T, N> {
 
     // One value more at the end; a full list hands it back.
     pub fn push(&mut self, x: T) -> Result<(), T>
-        ensures cases { λ r. ⌜ Cases r (λ _. Grew (now (self .entry)) (now (self .exit)) x) (λ e. Full (now (self .entry)) (now (self .exit)) x e) ⌝ }
-        ensures no_shorter { λ _. ⌜ length (held (now (self .entry))) ≤ length (held (now (self .exit))) ⌝ }
+        ensures { λ r. ⌜ Cases r (λ _. Grew (now (self .entry)) (now (self .exit)) x) (λ e. Full (now (self .entry)) (now (self .exit)) x e) ⌝ }
     {
         if self.len >= N {
             return Err(x);

@@ -9,6 +9,6 @@ pub returns : need.returns
 returns c =
     let made-of = c .in-Continue-values .ensures tt in
     let part = c .in-Continue-values .values .pilferage .now in
-    let month : c .in-Continue-values .values .month .now ≡ be 2 (c .whole-number .result) = c .whole-number .ensures ∙ ap (λ w. be w (c .whole-number .result)) (made-of .month-long) in
+    let month : c .in-Continue-values .values .month .now ≡ be 2 (c .number-in .result) = c .number-in .ensures ∙ ap (λ w. be w (c .number-in .result)) (made-of .month-long) in
     let pilferage = from-number part 0 (c .number-at .ensures) (from-end part 8 (omega (arith, made-of .pilferage-long))) .is in
     whole-file made-of _ month (c .read-list .ensures) pilferage (c .read-entry .ensures) (c .read-energy .ensures) (c .read-list-2 .ensures) (c .read-entry-2 .ensures)

@@ -10,13 +10,13 @@ use Rattle.monthfile.specs.Layout.{bytes-by}
 use Rattle.monthfile.proofs.values.read_list.Needs as need
 
 pub unreachable-requires : need.unreachable-requires
-unreachable-requires g c κs = omega (arith, c .in-rest .ensures tt .cases .full, c .loop-i .inv .0)
+unreachable-requires g c κs = omega (arith, c .in-rest .ensures tt .full, c .loop-i .inv .0)
 
 pub loop-i-again : need.loop-i-again
 loop-i-again g c =
     let xs = held (c .loop-i .list) in
     let ys = held (c .push .last .self) in
-    let items : ys ≡ xs ++ c .read-entry .result ∷ [] = c .in-Ok .ensures tt .cases .items in
+    let items : ys ≡ xs ++ c .read-entry .result ∷ [] = c .in-Ok .ensures tt .items in
     let i = c .loop-i .i in (
       omega (arith, ap length items, length-push xs (c .read-entry .result), c .loop-i .inv .0),
       joined-step (bytes-by (g .E·Entry .numbers)) (c .args .part .now) xs ys _ (24 * i) (24 * i + 24 - 24 * i) (24 * (i + 1)) (c .read-entry .ensures) items (c .loop-i .inv .1) (omega arith),

@@ -5,7 +5,7 @@ use Rattle.std.proofs.shelf.Results.{err-from-errBy}
 use Rattle.fields.specs.Questions.{first-no}
 use Rattle.fields.proofs.Asked.{answered-ok, answered-err, first-no-after, first-no-stop}
 use Rattle.month.specs.Asked.{limits-asked, rules-asked}
-use Rattle.month.specs.Making.{Made, Refused}
+use Rattle.month.specs.Making.{Made, NotMade}
 use Rattle.month.specs.Stated.{stated}
 use Rattle.month.proofs.Validity.{counted, bounded-from-yes, valid-from-yes, valid-made}
 use Rattle.month.proofs.month.Month.new.Needs as need
@@ -19,7 +19,7 @@ returns-in-Break-first-no c =
     let r = c .from-residual .result in
     let p = err-from-errBy r (c .from-residual .ensures .1) in
     let is = ap first-no (sym (c .limits-limits .ensures)) ∙ answered-err _ (c .in-Break-first-no .ensures tt) in
-    let cases : Cases r (λ m. Made s m) (λ e. Refused s e) = rw (p .1, p .2) (record { first = first-no-stop (limits-asked (stated s)) (rules-asked (stated s)) _ is }) in
+    let cases : Cases r (λ m. Made s m) (λ e. NotMade s e) = rw (p .1, p .2) (record { first = first-no-stop (limits-asked (stated s)) (rules-asked (stated s)) _ is }) in
     record { cases = cases; valid = valid-made s r cases }
 
 pub returns-in-Break-first-no-2 : need.returns-in-Break-first-no-2
@@ -29,7 +29,7 @@ returns-in-Break-first-no-2 c =
     let p = err-from-errBy r (c .from-residual-in-Break-first-no-2 .ensures .1) in
     let limits = ap first-no (sym (c .limits-limits .ensures)) ∙ answered-ok _ (c .in-Continue-first-no .ensures tt) in
     let is = ap first-no (sym (c .rules-rules .ensures)) ∙ answered-err _ (c .in-Break-first-no-2 .ensures tt) in
-    let cases : Cases r (λ m. Made s m) (λ e. Refused s e) = rw (p .1, p .2) (record { first = first-no-after (limits-asked (stated s)) (rules-asked (stated s)) limits ∙ is }) in
+    let cases : Cases r (λ m. Made s m) (λ e. NotMade s e) = rw (p .1, p .2) (record { first = first-no-after (limits-asked (stated s)) (rules-asked (stated s)) limits ∙ is }) in
     record { cases = cases; valid = valid-made s r cases }
 
 pub returns : need.returns
