@@ -12,6 +12,7 @@ pub use asking::first_no;
 pub use due::Due;
 pub use fault::FieldFault;
 pub use fault::FieldFaultDebug;
+pub use fault::FieldFaultDisplay;
 pub use fault::FieldFaultEq;
 pub use fault::FieldFaultPartialEq;
 pub use numbers::number;

@@ -7,3 +7,4 @@ pub mod Refusals
 pub mod Stated
 pub mod Valid
 pub mod View
+pub mod Words

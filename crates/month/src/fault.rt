@@ -1,14 +1,18 @@
 // Why a month is refused: a fault of a field inside one of the file inside one of the month.
 ghost use mathlib.Core.Path.{_≡_};
+ghost use Rattle.std.specs.declared.option.Option.the-variants.{Some};
 ghost use Rattle.month.specs.Refusals.{file-refusal, month-refusal};
+ghost use Rattle.month.specs.Words.{file-sentence, month-sentence, limit-words, cost-words};
 ghost use Rattle.month.specs.declared.fault.FileFault.the-variants.{Field};
 ghost use Rattle.month.specs.declared.fault.MonthFault.the-variants.{File};
 use fields::FieldFault;
 use fields::FieldFaultDebug;
+use fields::FieldFaultDisplay;
 use fields::FieldFaultEq;
 use fields::FieldFaultPartialEq;
 use fields::Layer;
 use fields::Refusal;
+use std::fmt;
 
 #[derive(Clone, Copy, Debug, PartialEq, Eq)]
 pub enum FileFault {
@@ -86,5 +90,88 @@ pub impl From<FileFault> for MonthFault as MonthFromFile {
 
     fn from(e: FileFault) -> MonthFault {
         MonthFault::File(e)
+    }
+}
+
+// The limits of the numbers in a field.
+fn limits_of(tag: u8) -> &'static str
+    ensures { λ r. ⌜ now r ≡ limit-words tag ⌝ }
+{
+    if tag == 1 {
+        "the month is 1 to 36"
+    } else if tag == 5 {
+        "energy goes up to 10000000 kWh"
+    } else if tag == 6 {
+        "a bracket has up to 10000000 kWh, 1000000 customers and 100 percent"
+    } else if tag == 7 {
+        "N goes up to 10000000 kWh, R and M go up to 1000000 units"
+    } else {
+        "amounts go up to 5000000000 centavos"
+    }
+}
+
+// The cost that is recovered by a field.
+fn cost_of(tag: u8) -> &'static str
+    ensures { λ r. ⌜ now r ≡ cost-words tag ⌝ }
+{
+    if tag == 2 {
+        "The cost of generation G"
+    } else {
+        "The cost of transmission T"
+    }
+}
+
+pub impl fmt::Display for FileFault as FileFaultDisplay {
+    ghost shown = { λ e. Some (file-sentence e) };
+
+    fn fmt<W: fmt::Write>(&self, f: &mut fmt::Formatter<W>) -> fmt::Result {
+        match *self {
+            FileFault::Field(fault) => write!(f, "{fault}"),
+            FileFault::GoesOn(at) => {
+                write!(f, "The file goes on at byte {at}, after its last field.")
+            }
+        }
+    }
+}
+
+pub impl fmt::Display for MonthFault as MonthFaultDisplay {
+    ghost shown = { λ e. Some (month-sentence e) };
+
+    fn fmt<W: fmt::Write>(&self, f: &mut fmt::Formatter<W>) -> fmt::Result {
+        match *self {
+            MonthFault::File(fault) => write!(f, "{fault}"),
+            MonthFault::OutsideLimit(tag) => {
+                let limits = limits_of(tag);
+                write!(f, "A number in field {tag} is outside its limit: {limits}.")
+            }
+            MonthFault::PassedOnAboveTaken(tag) => {
+                write!(
+                    f,
+                    "In field {tag} a discount passed on is above the discount taken."
+                )
+            }
+            MonthFault::CostsTooHigh(tag) => {
+                write!(
+                    f,
+                    "The source costs in field {tag} sum to more than 5000000000 centavos."
+                )
+            }
+            MonthFault::CostBelowZero(tag) => {
+                let cost = cost_of(tag);
+                write!(f, "{cost} is below zero.")
+            }
+            MonthFault::EnergyInconsistent(tag) => {
+                write!(
+                    f,
+                    "In field {tag} A + F is more than half of I, or X or Y is not below I."
+                )
+            }
+            MonthFault::SalesInconsistent(tag) => {
+                write!(
+                    f,
+                    "In field {tag} N is 0, or all sales S are more than I - X or I - Y."
+                )
+            }
+        }
     }
 }

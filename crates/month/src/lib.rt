@@ -9,11 +9,13 @@ mod sums;
 
 pub use fault::FileFault;
 pub use fault::FileFaultDebug;
+pub use fault::FileFaultDisplay;
 pub use fault::FileFaultEq;
 pub use fault::FileFaultPartialEq;
 pub use fault::FileFromField;
 pub use fault::MonthFault;
 pub use fault::MonthFaultDebug;
+pub use fault::MonthFaultDisplay;
 pub use fault::MonthFaultEq;
 pub use fault::MonthFaultPartialEq;
 pub use fault::MonthFromFile;
