@@ -13,6 +13,7 @@ use Rattle.std.specs.declared.result.Result.{Result}
 use Rattle.std.specs.declared.result.Result.the-variants.{Ok, Err}
 use Rattle.std.specs.shelf.Lists.{All, sumBy}
 use Rattle.std.proofs.shelf.Elements.{all-weaker}
+use Rattle.std.proofs.shelf.Signed.{ints}
 use Rattle.std.proofs.shelf.Sums.{sumBy-le, sumBy-cons}
 use Rattle.std.proofs.shelf.Tests.{and-parts, and-from, leb-true, le-leb, ltb-true, lt-ltb}
 use Rattle.bounded.proofs.Held.{held-most}
@@ -145,8 +146,8 @@ module _ (f : Figures) where
         sources-passed = all-from-every passed-on-within (λ s. s .passed ≤ s .taken) passed-tells (f .sources) (y .0);
         transmission-passed = leb-true _ _ (y .1 .0);
         costs-most = leb-true _ _ (y .1 .1 .0);
-        generation-recovered = leb-true _ _ (rest .0);
-        transmission-recovered = omega (arith, leb-true _ _ (rest .1 .0));
+        generation-not-negative = omega (arith, ints, leb-true _ _ (rest .0));
+        transmission-not-negative = omega (arith, ints, leb-true _ _ (rest .1 .0));
         losses = leb-true _ _ (energy .0);
         generation-charged = ltb-true _ _ (energy .1);
         transmission-charged = ltb-true _ _ (energy .2);
@@ -163,9 +164,9 @@ module _ (f : Figures) where
       (
         le-leb _ _ (v .costs-most),
         (
-          le-leb _ _ (v .generation-recovered),
+          le-leb _ _ (omega (arith, ints, v .generation-not-negative)),
           (
-            le-leb _ _ (omega (arith, v .transmission-recovered)),
+            le-leb _ _ (omega (arith, ints, v .transmission-not-negative)),
             (
               three-from (leb (2 * (f .energy .substation + f .energy .feeder)) (f .energy .input)) (ltb (f .exempt .generation) (f .energy .input)) (ltb (f .exempt .transmission) (f .energy .input)) (le-leb _ _ (v .losses)) (lt-ltb _ _ (v .generation-charged)) (lt-ltb _ _ (v .transmission-charged)),
               (three-from (leb 1 (f .sales .nonlifeline)) (leb (sold f + f .exempt .generation) (f .energy .input)) (leb (sold f + f .exempt .transmission) (f .energy .input)) (le-leb _ _ (v .some-sold)) (le-leb _ _ (v .sold-generation)) (le-leb _ _ (v .sold-transmission)), tt),

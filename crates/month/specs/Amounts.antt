@@ -64,6 +64,10 @@ hundredfold s b = (b .kwh * s .rate + b .customers * s .metering) * b .percent
 abbrev pub granted : Sales → Bracket → ℕ
 granted s b = cond (ltb 0 (b .percent)) (hundredfold s b) 0
 
--- D: one division, rounded down, of the whole sum
+-- D as it is computed: one division, rounded down, of the whole sum
 abbrev pub discount : Figures → ℕ
 discount f = sumBy (granted (f .sales)) (f .brackets) / 100
+
+-- D = ⌊sum of (kWh × R + customers × M) × percent / 100⌋
+abbrev pub discount-formula : Figures → ℕ
+discount-formula f = sumBy (hundredfold (f .sales)) (f .brackets) / 100

@@ -1,9 +1,11 @@
 -- The facts that questions 6 to 11 ask, in plain numbers: a month that exists has them all.
 use Prim.Native.Nat.{_+_, _*_, _≤_, _<_}
+use lib.IntN.{pos}
+use lib.Signed.{_≤ℤ_}
 use Rattle.std.specs.shelf.Lists.{All, sumBy}
 use Rattle.month.specs.declared.parts.Source.{Source}
 use Rattle.month.specs.declared.parts.Bracket.{Bracket}
-use Rattle.month.specs.Amounts.{cost-of, taken-of, passed-of, sold}
+use Rattle.month.specs.Amounts.{cost-of, generation-formula, transmission-formula, sold}
 use Rattle.month.specs.Figures.{Figures, Counted}
 
 pub record SourceWithin (s : Source) : Type 0 where
@@ -40,9 +42,9 @@ pub record Valid (f : Figures) : Type 0 where
   pub sources-passed : All (λ s. s .passed ≤ s .taken) (f .sources)
   pub transmission-passed : f .transmission .passed ≤ f .transmission .taken
   pub costs-most : sumBy cost-of (f .sources) ≤ 5000000000
-  -- the costs to recover are not below zero
-  pub generation-recovered : 100 * f .pilferage + 50 * sumBy taken-of (f .sources) ≤ 100 * sumBy cost-of (f .sources) + 50 * sumBy passed-of (f .sources)
-  pub transmission-recovered : 50 * f .transmission .taken ≤ 100 * f .transmission .cost + 50 * f .transmission .passed
+  -- G and T are not below zero
+  pub generation-not-negative : pos 0 ≤ℤ generation-formula f
+  pub transmission-not-negative : pos 0 ≤ℤ transmission-formula f
   -- at most half the input is lost, and some of it is charged
   pub losses : 2 * (f .energy .substation + f .energy .feeder) ≤ f .energy .input
   pub generation-charged : f .exempt .generation < f .energy .input

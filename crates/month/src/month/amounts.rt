@@ -2,7 +2,7 @@
 ghost use mathlib.Core.Path.{_≡_};
 ghost use Prim.Native.Nat.{_≤_};
 ghost use lib.IntN.{pos};
-ghost use Rattle.month.specs.Amounts.{generation-cost, generation-formula, transmission-cost, transmission-formula, sold, discount};
+ghost use Rattle.month.specs.Amounts.{generation-cost, generation-formula, transmission-cost, transmission-formula, sold, discount, discount-formula};
 ghost use Rattle.month.specs.View.{figures};
 use super::Month;
 
@@ -39,13 +39,15 @@ impl Month {
     // D, the lifeline discount. A bracket of 0 percent is passed over.
     pub fn lifeline_discount(&self) -> u64
         ensures is { λ r. ⌜ r ≡ discount (figures (now (self .entry))) ⌝ }
+        ensures formula { λ r. ⌜ r ≡ discount-formula (figures (now (self .entry))) ⌝ }
         ensures most { λ r. ⌜ r ≤ 44000000000000 ⌝ }
     {
         let sales = self.statement.sales;
         let mut total = 0;
         for bracket in self.statement.brackets.as_slice() {
             if bracket.percent > 0 {
-                total += bracket.hundredfold(sales);
+                let share = bracket.hundredfold(sales);
+                total += share;
             }
         }
         total / 100

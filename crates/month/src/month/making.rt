@@ -23,8 +23,10 @@ impl Month {
         Ok(Month { statement })
     }
 
+    // What the month states: its figures are valid.
     pub fn statement(&self) -> &Statement
-        ensures { λ r. ⌜ now r ≡ now (self .entry) .statement ⌝ }
+        ensures is { λ r. ⌜ now r ≡ now (self .entry) .statement ⌝ }
+        ensures valid { λ r. ⌜ Valid (stated (now r)) ⌝ }
     {
         &self.statement
     }

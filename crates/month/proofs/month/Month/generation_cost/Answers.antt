@@ -27,6 +27,6 @@ returns c =
     let passed = ap passed-of (c .bought-bought .ensures) in
     record {
       is = omega (arith, c .gross .ensures, c .credits .ensures);
-      formula = omega (arith, ints, c .gross .ensures, c .credits .ensures, v .generation-recovered);
+      formula = omega (arith, ints, c .gross .ensures, c .credits .ensures, v .generation-not-negative);
       most = omega (arith, c .gross .ensures, c .credits .ensures, v .costs-most, sum-passed (figures (c .args .self .now)) v);
     }

@@ -1,9 +1,12 @@
+use mathlib.Core.Path.{_≡_, _∙_}
+use Prim.Native.Nat.{_/_}
 use native.Mathlib.Omega.{arith}
 use lib.ListN.{getD}
 use Rattle.std.proofs.shelf.Tests.{cond-true, cond-false, lt-ltb, le-ltb}
-use Rattle.month.specs.Amounts.{hundredfold, granted}
+use Rattle.month.specs.Amounts.{hundredfold, granted, discount}
 use Rattle.month.specs.declared.parts.Bracket.{Bracket}
-use Rattle.month.proofs.Percents.{bracket-bounded, sum-most}
+use Rattle.month.specs.View.{figures}
+use Rattle.month.proofs.Percents.{bracket-bounded, sum-most, discount-is}
 use Rattle.month.proofs.Running.{running, ended}
 use Rattle.month.proofs.month.Month.lifeline_discount.Needs as need
 use Rattle.month.proofs.month.Month.lifeline_discount.Needs.{then-bracket-gt0, else-bracket-gt0}
@@ -11,8 +14,8 @@ use Rattle.month.proofs.month.Month.lifeline_discount.Needs.{then-bracket-gt0,
 abbrev none : Bracket
 none = record { kwh = 0; customers = 0; percent = 0 }
 
-pub hundredfold-total-requires : need.hundredfold-total-requires
-hundredfold-total-requires c κs = bracket-bounded (c .args .self .now) (c .as-slice-bracket-items .result .now) (c .loop-bracket .bracket-index) none (c .as-slice-bracket-items .ensures .value) (c .loop-bracket-test .taken)
+pub hundredfold-share-requires : need.hundredfold-share-requires
+hundredfold-share-requires c κs = bracket-bounded (c .args .self .now) (c .as-slice-bracket-items .result .now) (c .loop-bracket .bracket-index) none (c .as-slice-bracket-items .ensures .value) (c .loop-bracket-test .taken)
 
 pub add-total : need.add-total
 add-total c =
@@ -31,7 +34,7 @@ loop-bracket-again c =
     let b = getD xs i none in
     let s = running (granted sales) xs _ i none (c .as-slice-bracket-items .ensures .value) (c .loop-bracket-test .taken) in
     elim (c .if-bracket-gt0 .came) [
-      | then-bracket-gt0 w ↦ omega (arith, w .total-is, w .hundredfold-total .ensures, cond-true _ (hundredfold sales b) 0 (lt-ltb 0 (b .percent) (w .if-bracket-gt0 .taken)))
+      | then-bracket-gt0 w ↦ omega (arith, w .total-is, w .hundredfold-share .ensures, cond-true _ (hundredfold sales b) 0 (lt-ltb 0 (b .percent) (w .if-bracket-gt0 .taken)))
       | else-bracket-gt0 w ↦ omega (arith, w .total-is, cond-false _ (hundredfold sales b) 0 (le-ltb 0 (b .percent) (w .if-bracket-gt0 .left)))
     ]
 
@@ -39,4 +42,5 @@ pub returns : need.returns
 returns c =
     let m = c .args .self .now in
     let e = ended (granted (m .statement .sales)) _ _ (c .loop-bracket .bracket-index) (c .as-slice-bracket-items .ensures .value) (c .loop-bracket-test .left) in
-    record { is = omega arith; most = omega (arith, sum-most m) }
+    let is : c .loop-bracket .total / 100 ≡ discount (figures m) = omega arith in
+    record { is = is; formula = is ∙ discount-is (figures m); most = omega (arith, sum-most m) }

@@ -8,6 +8,6 @@ returns c =
     let v = month-valid (c .args .self .now) in
     record {
       is = omega (arith, c .gross .ensures, c .credits .ensures);
-      formula = omega (arith, ints, c .gross .ensures, c .credits .ensures, v .transmission-recovered);
+      formula = omega (arith, ints, c .gross .ensures, c .credits .ensures, v .transmission-not-negative);
       most = omega (arith, c .gross .ensures, c .credits .ensures, v .transmission-passed, v .within .transmission .cost-most);
     }
