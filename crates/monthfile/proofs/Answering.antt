@@ -16,6 +16,7 @@ use Rattle.month.specs.declared.statement.Statement.{Statement}
 use Rattle.month.specs.Asked.{month-asked}
 use Rattle.month.specs.Figures.{Figures}
 use Rattle.month.specs.Making as making
+use Rattle.month.specs.Refusals.{month-refusal}
 use Rattle.month.specs.Stated.{stated}
 use Rattle.month.specs.Valid.{Valid}
 use Rattle.month.specs.View.{figures}
@@ -39,23 +40,22 @@ blank = record {
 }
 
 module _ (file : List ℕ) where
+  told-too : (f : Figures) (e : MonthFault) → first-no (asked file f) ≡ Some e → first-no (carried month-refusal (asked file f)) ≡ Some (month-refusal e)
+  told-too f e is = carried-some month-refusal (asked file f) e is
+
   pub refused-file : (e : FileFault) → first-no (file-asked file) ≡ Some e → Refused file (File e)
-  refused-file e is = record {
-    asked-of = blank;
-    states = λ none. absurd (some-none (sym is ∙ none));
-    first = first-no-stop (carried File (file-asked file)) (month-asked blank) (File e) (carried-some File (file-asked file) e is);
-  }
+  refused-file e is =
+      let first = first-no-stop (carried File (file-asked file)) (month-asked blank) (File e) (carried-some File (file-asked file) e is) in
+      record { asked-of = blank; states = λ none. absurd (some-none (sym is ∙ none)); first = first; told = told-too blank (File e) first }
 
   -- a sound file leaves the answer to the questions of the month
   past-file : (f : Figures) → first-no (file-asked file) ≡ None → first-no (asked file f) ≡ first-no (month-asked f)
   past-file f none = first-no-after (carried File (file-asked file)) (month-asked f) (carried-none File (file-asked file) none)
 
   pub refused-month : (s : Statement) (e : MonthFault) → file ≡ file-of (stated s) → making.NotMade s e → Refused file e
-  refused-month s e is refused = record {
-    asked-of = stated s;
-    states = λ _. record { counted = counted s; is = is };
-    first = past-file (stated s) (asked-none file (stated s) (counted s) is) ∙ refused .first;
-  }
+  refused-month s e is refused =
+      let first = past-file (stated s) (asked-none file (stated s) (counted s) is) ∙ refused .first in
+      record { asked-of = stated s; states = λ _. record { counted = counted s; is = is }; first = first; told = told-too (stated s) e first }
 
   pub accepted-month : (s : Statement) (m : Month) → file ≡ file-of (stated s) → making.Made s m → Accepted file m
   accepted-month s m is made =

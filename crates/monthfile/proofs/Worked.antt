@@ -1,19 +1,24 @@
 -- Worked examples: the definitions compute them.
 use mathlib.Core.Path.{_≡_, refl}
+use mathlib.Core.Bool.{Bool}
 use mathlib.Core.List.{List, [], _∷_, _++_}
 use Prim.Native.Nat.{ℕ}
 use lib.ListN.{replicate}
 use Rattle.std.specs.declared.option.Option.the-variants.{Some, None}
 use Rattle.fields.specs.declared.fault.FieldFault.the-variants.{NoHead, WrongLength}
+use Rattle.fields.specs.declared.due.Due.{Due}
 use Rattle.fields.specs.Bytes.{be}
-use Rattle.fields.specs.Questions.{first-no}
+use Rattle.fields.specs.Heads.{field-asked}
+use Rattle.fields.specs.Questions.{first-no, carried}
 use Rattle.month.specs.declared.fault.FileFault.the-variants.{Field, GoesOn}
-use Rattle.month.specs.declared.fault.MonthFault.the-variants.{EnergyInconsistent}
+use Rattle.month.specs.declared.fault.MonthFault.{MonthFault}
+use Rattle.month.specs.declared.fault.MonthFault.the-variants.{File, EnergyInconsistent}
 use Rattle.month.specs.Amounts.{generation-cost, transmission-cost, sold, discount}
 use Rattle.month.specs.Asked.{month-asked}
 use Rattle.month.specs.Figures.{Figures}
+use Rattle.month.specs.Refusals.{month-refusal}
 use Rattle.monthfile.specs.Layout.{file-of}
-use Rattle.monthfile.specs.Questions.{file-asked}
+use Rattle.monthfile.specs.Questions.{asked-from, file-asked}
 
 -- month 1 of one source, with one lifeline bracket
 sample : Figures
@@ -115,3 +120,17 @@ eight-sources = refl
 nine-sources : first-no (file-asked (file-of (bought-from 9))) ≡ Some (Field (WrongLength 5))
 unfolding be bought-from
 nine-sources = refl
+
+-- the questions as number and place, in the order in which they are asked
+abbrev told : List (Bool × MonthFault) → List (ℕ × ℕ)
+told [] = []
+told (q ∷ qs) = (month-refusal (q .1) .number, month-refusal (q .1) .place) ∷ told qs
+
+month-questions : (f : Figures) → told (month-asked f) ≡ (6, 1) ∷ (6, 2) ∷ (6, 3) ∷ (6, 4) ∷ (6, 5) ∷ (6, 6) ∷ (6, 7) ∷ (7, 2) ∷ (7, 4) ∷ (8, 2) ∷ (9, 2) ∷ (9, 4) ∷ (10, 5) ∷ (11, 7) ∷ []
+month-questions f = refl
+
+field-questions : (bs : List ℕ) (p : ℕ) (d : Due) → told (carried (λ e. File (Field e)) (field-asked bs p d)) ≡ (1, p) ∷ (2, p) ∷ (3, p) ∷ (4, p) ∷ []
+field-questions bs p d = refl
+
+last-question : (bs : List ℕ) (p : ℕ) → told (carried File (asked-from bs p [])) ≡ (5, p) ∷ []
+last-question bs p = refl

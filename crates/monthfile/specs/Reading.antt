@@ -3,10 +3,11 @@ use mathlib.Core.Path.{_≡_}
 use mathlib.Core.List.{List}
 use Prim.Native.Nat.{ℕ}
 use Rattle.std.specs.declared.option.Option.the-variants.{Some, None}
-use Rattle.fields.specs.Questions.{first-no}
+use Rattle.fields.specs.Questions.{first-no, carried}
 use Rattle.month.specs.declared.fault.MonthFault.{MonthFault}
 use Rattle.month.specs.declared.month.Month.{Month}
 use Rattle.month.specs.Figures.{Figures, Counted}
+use Rattle.month.specs.Refusals.{month-refusal}
 use Rattle.month.specs.Valid.{Valid}
 use Rattle.month.specs.View.{figures}
 use Rattle.monthfile.specs.Layout.{file-of}
@@ -28,3 +29,5 @@ pub record Refused (file : List ℕ) (e : MonthFault) : Type 0 where
   pub asked-of : Figures
   pub states : first-no (file-asked file) ≡ None → States file asked-of
   pub first : first-no (asked file asked-of) ≡ Some e
+  -- the same, by number, layer and place
+  pub told : first-no (carried month-refusal (asked file asked-of)) ≡ Some (month-refusal e)

@@ -9,7 +9,7 @@ ghost use Rattle.fields.specs.Places.{Written};
 ghost use Rattle.month.specs.Stated.{stated};
 ghost use Rattle.month.specs.View.{figures};
 ghost use Rattle.monthfile.specs.Layout.{bytes-by, file-of};
-ghost use Rattle.monthfile.specs.Writing.{Wrote, Short, GaveBack};
+ghost use Rattle.monthfile.specs.Writing.{Wrote, Short, WroteBack};
 use crate::entry::BracketEntry;
 use crate::entry::Entry;
 use crate::entry::SalesEntry;
@@ -119,7 +119,7 @@ fn put_file(buffer: &mut [u8], statement: &Statement) -> usize
 // Fills the buffer's start with the month's file and answers its length; a short buffer is refused and left as it was.
 pub fn write_month(month: &Month, buffer: &mut [u8]) -> Result<usize, ShortBuffer>
     ensures cases { λ r. ⌜ Cases r (λ n. Wrote (now (buffer .entry)) (now (buffer .exit)) n (file-of (figures (now (month .entry))))) (λ e. Short (now (buffer .entry)) (now (buffer .exit)) e) ⌝ }
-    ensures gives_back { λ r. ⌜ Cases r (λ n. GaveBack (now (month .entry)) (now (buffer .exit)) n) (λ e. Unit {0}) ⌝ }
+    ensures gives_back { λ r. ⌜ Cases r (λ n. WroteBack (now (month .entry)) (now (buffer .exit)) n) (λ e. Unit {0}) ⌝ }
 {
     ask_room(buffer)?;
     Ok(put_file(buffer, month.statement()))
