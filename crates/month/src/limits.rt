@@ -20,7 +20,7 @@ const MAX_COUNT: u64 = 1_000_000;
 
 const MAX_PERCENT: u64 = 100;
 
-const MAX_MONTH: u64 = 36;
+const MAX_MONTH: u16 = 36;
 
 // Figures that have limits.
 trait Limited {

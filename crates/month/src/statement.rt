@@ -13,7 +13,7 @@ use bounded::UpToClone;
 // One to eight power sources and at most four lifeline brackets, with the pilferage recovery in centavos.
 #[derive(Clone, Copy)]
 pub struct Statement {
-    pub month: u64,
+    pub month: u16,
     pub sources: UpTo<Source, 8>,
     pub pilferage: u64,
     pub transmission: Source,

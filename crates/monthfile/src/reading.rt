@@ -18,10 +18,10 @@ use crate::entry::SalesEntry;
 use crate::entry::SourceEntry;
 use crate::layout::read_values;
 use crate::values::number_at;
-use crate::values::number_in;
 use crate::values::read_energy;
 use crate::values::read_entry;
 use crate::values::read_list;
+use crate::values::read_month_number;
 use month::BracketDefault;
 use month::FileFault;
 use month::Month;
@@ -37,7 +37,7 @@ fn read_statement(file: &[u8]) -> Result<Statement, FileFault>
     let values = read_values(file)?;
     let (energy, exempt) = read_energy(values.energy);
     Ok(Statement {
-        month: number_in(values.month),
+        month: read_month_number(values.month),
         sources: read_list(values.sources),
         pilferage: number_at(values.pilferage, 0),
         transmission: read_entry(values.transmission),

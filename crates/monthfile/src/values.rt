@@ -1,6 +1,6 @@
 // The figures in a value.
 ghost use mathlib.Core.Path.{_≡_};
-ghost use Prim.Native.Nat.{_+_, _*_, _%_, _≤_};
+ghost use Prim.Native.Nat.{_+_, _*_, _%_, _^_, _<_, _≤_};
 ghost use lib.ListN.{length, take, drop};
 ghost use Rattle.std.specs.Joined.{joined};
 ghost use Rattle.bounded.specs.View.{held};
@@ -13,12 +13,21 @@ use month::Energy;
 use month::Exempt;
 
 // The number that a part is.
-pub(crate) fn number_in(part: &[u8]) -> u64
+fn number_in(part: &[u8]) -> u64
     requires { ⌜ length (now part) ≤ 8 ⌝ }
-    ensures { λ r. ⌜ now (part .entry) ≡ be (length (now (part .entry))) r ⌝ }
+    ensures bytes { λ r. ⌜ now (part .entry) ≡ be (length (now (part .entry))) r ⌝ }
+    ensures bound { λ r. ⌜ r < 256 ^ length (now (part .entry)) ⌝ }
 {
     let Some(n) = number(part) else { unreachable() };
     n
+}
+
+// The month's number, in two bytes.
+pub(crate) fn read_month_number(part: &[u8]) -> u16
+    requires { ⌜ length (now part) ≡ 2 ⌝ }
+    ensures { λ r. ⌜ now (part .entry) ≡ be 2 r ⌝ }
+{
+    number_in(part) as u16
 }
 
 // The number in the eight bytes at `at`.

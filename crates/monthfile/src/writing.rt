@@ -1,6 +1,6 @@
 // Writing a month's file into a lent buffer.
 ghost use mathlib.Core.Path.{_≡_};
-ghost use Prim.Native.Nat.{_+_, _*_, _<_, _≤_};
+ghost use Prim.Native.Nat.{_+_, _*_, _≤_};
 ghost use lib.ListN.{length};
 ghost use Rattle.std.specs.Joined.{joined};
 ghost use Rattle.std.specs.Results.{Cases};
@@ -60,14 +60,13 @@ fn put_entries<E: Entry>(buffer: &mut [u8], at: usize, entries: &[E]) -> usize
 }
 
 // The field of the month's number.
-fn put_month(buffer: &mut [u8], at: usize, tag: u8, month: u64) -> usize
-    requires room { ⌜ at + 5 ≤ length (now buffer) ⌝ }
-    requires small { ⌜ month < 65536 ⌝ }
+fn put_month(buffer: &mut [u8], at: usize, tag: u8, month: u16) -> usize
+    requires { ⌜ at + 5 ≤ length (now buffer) ⌝ }
     ensures written { λ r. ⌜ Written (now (buffer .entry)) (now (buffer .exit)) at (field-of tag (be 2 month)) r ⌝ }
     ensures next { λ r. ⌜ r ≡ at + 5 ⌝ }
 {
     let next = put_bytes(buffer, at, &head(tag, 2));
-    put_bytes(buffer, next, &two_bytes(month as u16))
+    put_bytes(buffer, next, &two_bytes(month))
 }
 
 // A field of numbers of eight bytes.
@@ -94,8 +93,7 @@ fn put_list<E: Entry>(buffer: &mut [u8], at: usize, tag: u8, entries: &[E]) -> u
 
 // Puts the file of the statement at the start of a buffer that has room for it.
 fn put_file(buffer: &mut [u8], statement: &Statement) -> usize
-    requires room { ⌜ 1024 ≤ length (now buffer) ⌝ }
-    requires small { ⌜ now statement .month < 65536 ⌝ }
+    requires { ⌜ 1024 ≤ length (now buffer) ⌝ }
     ensures { λ r. ⌜ Written (now (buffer .entry)) (now (buffer .exit)) 0 (file-of (stated (now (statement .entry)))) r ⌝ }
 {
     let energy = statement.energy;

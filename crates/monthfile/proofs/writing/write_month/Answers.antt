@@ -1,5 +1,4 @@
 use mathlib.Core.Path.{refl, ap}
-use native.Mathlib.Omega.{arith}
 use lib.ListN.{length}
 use Rattle.std.proofs.shelf.Results.{err-from-errBy}
 use Rattle.fields.specs.Refusals.{buffer-refusal}
@@ -7,16 +6,12 @@ use Rattle.fields.proofs.Asked.{answered-ok, answered-err}
 use Rattle.fields.proofs.Writes.{written-as}
 use Rattle.fields.proofs.Rooms.{room-there, no-room}
 use Rattle.month.specs.Stated.{stated}
-use Rattle.month.proofs.Validity.{month-valid}
 use Rattle.monthfile.specs.Layout.{file-of}
 use Rattle.monthfile.proofs.WrittenBack.{wrote, wrote-back}
 use Rattle.monthfile.proofs.writing.write_month.Needs as need
 
 pub put-file-requires : need.put-file-requires
-put-file-requires c κs = record {
-  room = room-there (length (c .args .buffer .now)) (c .in-Continue-ask-room .ensures tt);
-  small = omega (arith, month-valid (c .args .month .now) .within .month-most, ap (λ s. s .month) (c .statement .ensures .is));
-}
+put-file-requires c κs = room-there (length (c .args .buffer .now)) (c .in-Continue-ask-room .ensures tt)
 
 pub returns-in-Break-ask-room : need.returns-in-Break-ask-room
 returns-in-Break-ask-room c =
