@@ -56,6 +56,7 @@ const DUE: [Due; 7] = [
     },
 ];
 
+// The values of the fields, in the order of their tags.
 #[derive(Clone, Copy)]
 pub(crate) struct Values<'a> {
     pub month: &'a [u8],
@@ -72,6 +73,7 @@ pub(crate) fn read_values<'a>(file: &'a [u8]) -> Result<Values<'a>, FileFault>
     ensures { λ r. ⌜ Cases r (λ v. MadeOf (now (file .entry)) (v .month .now) (v .sources .now) (v .pilferage .now) (v .transmission .now) (v .energy .now) (v .brackets .now) (v .sales .now)) (λ e. first-no (file-asked (now (file .entry))) ≡ Some e) ⌝ }
 {
     let mut reader = Reader::new(file);
+    // Each is replaced below.
     let mut values = [file; 7];
     for (i, due) in DUE.iter().enumerate() {
         values[i] = reader.field(*due)?;
