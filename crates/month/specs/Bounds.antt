@@ -1,4 +1,4 @@
--- How large sums are where no number is outside its limit.
+-- How large numbers and sums are where no number is outside its limit.
 use Prim.Native.Nat.{_*_, _≤_}
 use Rattle.month.specs.declared.parts.Bracket.{Bracket}
 use Rattle.month.specs.declared.parts.Sales.{Sales}

@@ -22,9 +22,10 @@ add-total c =
     let m = c .args .self .now in
     let xs = c .as-slice-bracket-items .result .now in
     let i = c .loop-bracket .bracket-index in
-    let b = getD xs i none in
-    let s = running (granted (m .statement .sales)) xs _ i none (c .as-slice-bracket-items .ensures .value) (c .loop-bracket-test .taken) in
-    omega (arith, sum-most m, cond-true _ (hundredfold (m .statement .sales) b) 0 (lt-ltb 0 (b .percent) (c .if-bracket-gt0 .taken)))
+    let is = c .as-slice-bracket-items .ensures .value in
+    let s = running (granted (m .statement .sales)) xs _ i none is (c .loop-bracket-test .taken) in
+    let b = bracket-bounded m xs i none is (c .loop-bracket-test .taken) in
+    omega (arith, sum-most m, c .hundredfold-share .ensures)
 
 pub loop-bracket-again : need.loop-bracket-again
 loop-bracket-again c =
