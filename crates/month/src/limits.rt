@@ -67,7 +67,7 @@ impl Limited for Sales {
 }
 
 fn all_within<X: Limited>(all: &[X]) -> bool
-    ensures { result ≡ every limited all.now }
+    ensures { result ≡ every X.limited all.now }
 {
     for one in all {
         if !one.within() {

@@ -34,7 +34,7 @@ loop-value-preserved g c =
     let a = g.F.Adds in
     let laws = g.met.F.Adds in
     let all = c.args.values.now in
-    let start = c.saturating-sub-start.result in
+    let start = c.saturating_sub-start.result in
     let k = min c.args.window 36 in
     let xs = take (length all - start) (drop start all) in
     let x = c.value-item.result in
@@ -53,5 +53,5 @@ pub returns : goal.returns
 returns g c =
     let a = g.F.Adds in
     let all = c.args.values.now in
-    let e = part all (min c.args.window 36) c.saturating-sub-start.result (omega arith) in
+    let e = part all (min c.args.window 36) c.saturating_sub-start.result (omega arith) in
     c.loop-value.invariant.0 ∙ ap (λ l. fold a.plus a.zero (map g.X.Carries.carried l)) (take_all c.loop-value.value-index _ c.loop-value-test.false ∙ e)

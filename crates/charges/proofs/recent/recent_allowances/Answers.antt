@@ -5,4 +5,4 @@ use Rattle.charges.specs.Assessed.{allowance_of}
 use Rattle.charges.proofs.recent.recent_allowances.Goals as goal
 
 pub returns : goal.returns
-returns c = c.rolling-total.ensures ∙ sum-map allowance_of (latest 3 c.args.assessments.now)
+returns c = c.rolling_total.ensures ∙ sum-map allowance_of (latest 3 c.args.assessments.now)

@@ -10,7 +10,7 @@ pub returns : goal.returns
 returns c =
     let ms = c.args.months.now in
     let fs = map figures ms in
-    let is = c.rolling-total.ensures ∙ twelve_total ms in
+    let is = c.rolling_total.ensures ∙ twelve_total ms in
     let kept = subst (Kept (length (latest 12 fs))) (sym is) (twelve_kept fs (months_valid ms)) in
     let n = latest_length 12 fs in
     let same = length-map ms figures in

@@ -6,5 +6,5 @@ pub returns : goal.returns
 returns c = record {
   fits = omega arith;
   ends = refl;
-  becomes = put_mid_lem c.args.at _ _ _ _ c.copy-from-slice.ensures.after (omega arith);
+  becomes = put_mid_lem c.args.at _ _ _ _ c.copy_from_slice.ensures.after (omega arith);
 }

@@ -13,15 +13,15 @@ loop-i-init c = begin _ _ _ _ refl c.new-reader.ensures.bytes c.new-reader.ensur
 pub loop-i-preserved : goal.loop-i-preserved
 loop-i-preserved c =
     let i = c.loop-i.i in
-    let value = c.in-ok-values.field-0 in
+    let value = c.in_ok-values.field-0 in
     let reader = c.field.new.self in
-    let next = pass c.loop-i.invariant c.loop-i-test.true {at' = reader.at} {bytes' = reader.bytes.now} {value = value.now} c.in-ok-values.ensures.cases c.field.ensures.same_bytes in
+    let next = pass c.loop-i.invariant c.loop-i-test.true {at' = reader.at} {bytes' = reader.bytes.now} {value = value.now} c.in_ok-values.ensures.cases c.field.ensures.same_bytes in
     subst (λ vs. Progress c.args.file.now vs (i + 1) reader.bytes.now reader.at) (sym (map-set (λ v. v.now) c.loop-i.values i value)) next
 
-pub returns-in-err-values : goal.returns-in-err-values
-returns-in-err-values c =
-    let p = err_from_is_err_and c.from-residual.result c.from-residual.ensures.1 in
-    rw (p.1, p.2) (stop c.loop-i.invariant c.loop-i-test.true {at' = c.field.new.self.at} c.in-err-values.ensures.cases)
+pub returns-in_err-values : goal.returns-in_err-values
+returns-in_err-values c =
+    let p = err_from_is_err_and c.from_residual.result c.from_residual.ensures.1 in
+    rw (p.1, p.2) (stop c.loop-i.invariant c.loop-i-test.true {at' = c.field.new.self.at} c.in_err-values.ensures.cases)
 
 pub returns-in-Some : goal.returns-in-Some
 returns-in-Some c = goes_on c.loop-i.invariant c.loop-i-test.false c.in-Some.at c.in-Some.ensures
@@ -29,4 +29,4 @@ returns-in-Some c = goes_on c.loop-i.invariant c.loop-i-test.false c.in-Some.at 
 pub returns : goal.returns
 returns c =
     let at : (k : ℕ) → k < 7 → (get_or c.loop-i.values k none).now ≡ get_or (map (λ v. v.now) c.loop-i.values) k [] = λ k h. value_at c.loop-i.values k none c.loop-i.invariant.seven h in
-    made_of c.loop-i.invariant c.loop-i-test.false c.in-default.ensures (at 0 (omega arith)) (at 1 (omega arith)) (at 2 (omega arith)) (at 3 (omega arith)) (at 4 (omega arith)) (at 5 (omega arith)) (at 6 (omega arith))
+    made_of c.loop-i.invariant c.loop-i-test.false c.in_default.ensures (at 0 (omega arith)) (at 1 (omega arith)) (at 2 (omega arith)) (at 3 (omega arith)) (at 4 (omega arith)) (at 5 (omega arith)) (at 6 (omega arith))

@@ -6,4 +6,4 @@ use Rattle.monthfile.proofs.values.read_entry.Goals as goal
 pub returns : goal.returns
 returns g c =
     let bs = c.args.part.now in
-    (from_number bs 0 c.number-at.ensures (from_number bs 8 c.number-at-2.ensures (from_number bs 16 c.number-at-3.ensures (from_end bs 24 (omega arith))))).is ∙ ap eights (sym c.of.ensures)
+    (from_number bs 0 c.number_at.ensures (from_number bs 8 c.number_at-2.ensures (from_number bs 16 c.number_at-3.ensures (from_end bs 24 (omega arith))))).is ∙ ap eights (sym c.of.ensures)

@@ -7,13 +7,13 @@ use Rattle.monthfile.proofs.writing.put_entries.Goals as goal
 pub loop-entry-init : goal.loop-entry-init
 loop-entry-init g c = (omega arith, written_none _ c.args.at (omega arith))
 
-pub put-numbers-next-requires : goal.put-numbers-next-requires
-put-numbers-next-requires g c = omega (arith, c.loop-entry.invariant.0, ap length c.in-order.ensures ∙ g.met.E.Entry.three c.entry-item.result)
+pub put_numbers-next-requires : goal.put_numbers-next-requires
+put_numbers-next-requires g c = omega (arith, c.loop-entry.invariant.0, ap length c.in_order.ensures ∙ g.met.E.Entry.three c.entry-item.result)
 
 pub loop-entry-preserved : goal.loop-entry-preserved
 loop-entry-preserved g c = (
-  omega (arith, c.loop-entry.invariant.0, c.put-numbers-next.ensures.next, ap length c.in-order.ensures ∙ g.met.E.Entry.three c.entry-item.result),
-  written_more (bytes_by g.E.Entry.numbers) c.args.entries.now c.loop-entry.entry-index c.entry-item.result c.loop-entry-test.true c.entry-item.is (ap eights c.in-order.ensures) c.loop-entry.invariant.1 c.put-numbers-next.ensures.written,
+  omega (arith, c.loop-entry.invariant.0, c.put_numbers-next.ensures.next, ap length c.in_order.ensures ∙ g.met.E.Entry.three c.entry-item.result),
+  written_more (bytes_by g.E.Entry.numbers) c.args.entries.now c.loop-entry.entry-index c.entry-item.result c.loop-entry-test.true c.entry-item.is (ap eights c.in_order.ensures) c.loop-entry.invariant.1 c.put_numbers-next.ensures.written,
 )
 
 pub returns : goal.returns

@@ -7,6 +7,6 @@ pub returns : goal.returns
 returns c =
     let n = length_be 2 c.args.month in
     record {
-      written = written_field c.args.tag 2 c.head.ensures (sym n) c.put-bytes-next.ensures.written (written_as c.two-bytes.ensures c.put-bytes.ensures.written);
-      next = omega (arith, c.put-bytes-next.ensures.next, c.put-bytes.ensures.next, ap length c.head.ensures, ap length c.two-bytes.ensures);
+      written = written_field c.args.tag 2 c.head.ensures (sym n) c.put_bytes-next.ensures.written (written_as c.two_bytes.ensures c.put_bytes.ensures.written);
+      next = omega (arith, c.put_bytes-next.ensures.next, c.put_bytes.ensures.next, ap length c.head.ensures, ap length c.two_bytes.ensures);
     }

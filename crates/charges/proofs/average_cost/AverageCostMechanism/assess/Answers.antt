@@ -8,8 +8,8 @@ use Rattle.charges.specs.Last.{with_last, with_none}
 use Rattle.charges.specs.Laws.{sold_most}
 use Rattle.charges.proofs.average_cost.AverageCostMechanism.assess.Goals as goal
 
-pub returns-in-default : goal.returns-in-default
-returns-in-default g c = with_none c.args.months.now _ c.in-default.ensures.item.0
+pub returns-in_default : goal.returns-in_default
+returns-in_default g c = with_none c.args.months.now _ c.in_default.ensures.item.0
 
 pub averaged-requires : goal.averaged-requires
 averaged-requires g c =

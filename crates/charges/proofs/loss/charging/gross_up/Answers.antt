@@ -5,8 +5,8 @@ use Rattle.charges.proofs.loss.charging.gross_up.Goals as goal
 
 pub returns : goal.returns
 returns c =
-    let e = c.recent-energy-energy.result in
-    let known = c.recent-energy-energy.ensures in
+    let e = c.recent_energy-energy.result in
+    let known = c.recent_energy-energy.ensures in
     let cap = c.args.cap in
     record {
       is = gross_up_is cap e _ (search rules) ∙ ap (gross_up cap) known.is;

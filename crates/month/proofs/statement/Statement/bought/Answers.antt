@@ -7,33 +7,33 @@ use Rattle.month.proofs.statement.Statement.bought.Goals as goal
 abbrev none : Source
 none = record { cost = 0; taken = 0; passed = 0 }
 
-pub overflow-add-cost : goal.overflow-add-cost
-overflow-add-cost c =
-    let s = running cost_of c.as-slice-source-items.result.now _ c.loop-source.source-index none c.as-slice-source-items.ensures.value c.loop-source-test.true in
+pub overflow_add-cost : goal.overflow_add-cost
+overflow_add-cost c =
+    let s = running cost_of c.as_slice-source-items.result.now _ c.loop-source.source-index none c.as_slice-source-items.ensures.value c.loop-source-test.true in
     omega (arith, c.requires.costs)
 
-pub overflow-add-taken : goal.overflow-add-taken
-overflow-add-taken c =
-    let s = running taken_of c.as-slice-source-items.result.now _ c.loop-source.source-index none c.as-slice-source-items.ensures.value c.loop-source-test.true in
+pub overflow_add-taken : goal.overflow_add-taken
+overflow_add-taken c =
+    let s = running taken_of c.as_slice-source-items.result.now _ c.loop-source.source-index none c.as_slice-source-items.ensures.value c.loop-source-test.true in
     omega (arith, c.requires.taken)
 
-pub overflow-add-passed : goal.overflow-add-passed
-overflow-add-passed c =
-    let s = running passed_of c.as-slice-source-items.result.now _ c.loop-source.source-index none c.as-slice-source-items.ensures.value c.loop-source-test.true in
+pub overflow_add-passed : goal.overflow_add-passed
+overflow_add-passed c =
+    let s = running passed_of c.as_slice-source-items.result.now _ c.loop-source.source-index none c.as_slice-source-items.ensures.value c.loop-source-test.true in
     omega (arith, c.requires.passed)
 
 pub loop-source-preserved : goal.loop-source-preserved
 loop-source-preserved c =
-    let xs = c.as-slice-source-items.result.now in
-    let e = c.as-slice-source-items.ensures.value in
+    let xs = c.as_slice-source-items.result.now in
+    let e = c.as_slice-source-items.ensures.value in
     let i = c.loop-source.source-index in
     let h = c.loop-source-test.true in
     (omega (arith, running cost_of xs _ i none e h), omega (arith, running taken_of xs _ i none e h), omega (arith, running passed_of xs _ i none e h))
 
 pub returns : goal.returns
 returns c =
-    let xs = c.as-slice-source-items.result.now in
-    let e = c.as-slice-source-items.ensures.value in
+    let xs = c.as_slice-source-items.result.now in
+    let e = c.as_slice-source-items.ensures.value in
     let i = c.loop-source.source-index in
     let h = c.loop-source-test.false in
     let a = c.loop-source.invariant.0 ∙ ended cost_of xs _ i e h in

@@ -7,17 +7,17 @@ use Rattle.month.proofs.statement.Statement.sold.Goals as goal
 abbrev none : Bracket
 none = record { kwh = 0; customers = 0; percent = 0 }
 
-pub overflow-add-kwh : goal.overflow-add-kwh
-overflow-add-kwh c =
-    let s = running kwh_of c.as-slice-bracket-items.result.now _ c.loop-bracket.bracket-index none c.as-slice-bracket-items.ensures.value c.loop-bracket-test.true in
+pub overflow_add-kwh : goal.overflow_add-kwh
+overflow_add-kwh c =
+    let s = running kwh_of c.as_slice-bracket-items.result.now _ c.loop-bracket.bracket-index none c.as_slice-bracket-items.ensures.value c.loop-bracket-test.true in
     omega (arith, c.requires.sales)
 
 pub loop-bracket-preserved : goal.loop-bracket-preserved
 loop-bracket-preserved c =
-    let s = running kwh_of c.as-slice-bracket-items.result.now _ c.loop-bracket.bracket-index none c.as-slice-bracket-items.ensures.value c.loop-bracket-test.true in
+    let s = running kwh_of c.as_slice-bracket-items.result.now _ c.loop-bracket.bracket-index none c.as_slice-bracket-items.ensures.value c.loop-bracket-test.true in
     omega arith
 
 pub returns : goal.returns
 returns c =
-    let e = ended kwh_of _ _ c.loop-bracket.bracket-index c.as-slice-bracket-items.ensures.value c.loop-bracket-test.false in
+    let e = ended kwh_of _ _ c.loop-bracket.bracket-index c.as_slice-bracket-items.ensures.value c.loop-bracket-test.false in
     omega arith

@@ -3,8 +3,8 @@ use Rattle.month.specs.Amounts.{sold}
 use Rattle.charges.specs.Last.{with_last, with_none}
 use Rattle.chargecases.proofs.tests.flat_fee.FlatFeeMechanism.assess.Goals as goal
 
-pub returns-in-default : goal.returns-in-default
-returns-in-default c = with_none c.args.months.now _ c.in-default.ensures.item.0
+pub returns-in_default : goal.returns-in_default
+returns-in_default c = with_none c.args.months.now _ c.in_default.ensures.item.0
 
 pub returns : goal.returns
 returns c =
