@@ -38,7 +38,7 @@ pub(crate) fn number_at(part: &[u8], at: usize) -> u64
 
 pub(crate) fn read_entry<E: Entry>(part: &[u8]) -> E
     requires { length part.now ≡ 24 }
-    ensures { part.now ≡ bytes_by numbers result }
+    ensures { part.now ≡ bytes_by E.numbers result }
 {
     E::of(number_at(part, 0), number_at(part, 8), number_at(part, 16))
 }
@@ -46,7 +46,7 @@ pub(crate) fn read_entry<E: Entry>(part: &[u8]) -> E
 pub(crate) fn read_list<E: Entry + Copy + Default, const N: usize>(part: &[u8]) -> UpTo<E, N>
     requires whole { length part.now % 24 ≡ 0 }
     requires few { length part.now ≤ 24 * N }
-    ensures { part.now ≡ flat_map (bytes_by numbers) (held result) }
+    ensures { part.now ≡ flat_map (bytes_by E.numbers) (held result) }
 {
     let mut list = UpTo::new();
     for i in 0..part.len() / 24 {

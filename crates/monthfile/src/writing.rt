@@ -38,7 +38,7 @@ fn put_numbers(buffer: &mut [u8], at: usize, numbers: &[u64]) -> usize
 
 fn put_entries<E: Entry>(buffer: &mut [u8], at: usize, entries: &[E]) -> usize
     requires { at + 24 * length entries.now ≤ length buffer.old }
-    ensures written { Written buffer.old buffer.new at (flat_map (bytes_by numbers) entries.now) result }
+    ensures written { Written buffer.old buffer.new at (flat_map (bytes_by E.numbers) entries.now) result }
     ensures next { result ≡ at + 24 * length entries.now }
 {
     let mut next = at;
@@ -73,7 +73,7 @@ fn put_field(buffer: &mut [u8], at: usize, tag: u8, numbers: &[u64]) -> usize
 fn put_list<E: Entry>(buffer: &mut [u8], at: usize, tag: u8, entries: &[E]) -> usize
     requires room { at + 3 + 24 * length entries.now ≤ length buffer.old }
     requires few { length entries.now ≤ 8 }
-    ensures written { Written buffer.old buffer.new at (field_of tag (flat_map (bytes_by numbers) entries.now)) result }
+    ensures written { Written buffer.old buffer.new at (field_of tag (flat_map (bytes_by E.numbers) entries.now)) result }
     ensures next { result ≡ at + 3 + 24 * length entries.now }
 {
     let next = put_bytes(buffer, at, &head(tag, 24 * entries.len() as u16));
