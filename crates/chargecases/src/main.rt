@@ -1,4 +1,6 @@
 // Reads a table of rows of months and prints, for each month as the last of its row, what the four charges answer.
+#![tactic(auto)]
+
 mod answers;
 mod figures;
 #[cfg(test)]

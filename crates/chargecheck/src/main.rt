@@ -1,4 +1,6 @@
 // Reads one month file from standard input and prints what the four charges answer for its month as a first month, or why it is refused.
+#![tactic(auto)]
+
 mod answers;
 
 use crate::answers::print_answers;

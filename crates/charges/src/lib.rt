@@ -1,4 +1,6 @@
 // Pass-through charges: what a mechanism is, and the four of Resolution 14.
+#![tactic(auto)]
+
 mod assessment;
 mod average_cost;
 mod cap;

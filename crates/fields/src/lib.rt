@@ -1,4 +1,6 @@
 // Bytes headed by a tag and a length: reading them in place, writing them, and what a refusal tells.
+#![tactic(auto)]
+
 mod asking;
 mod due;
 mod fault;

@@ -1,4 +1,6 @@
 // One month of an electric cooperative: what its file states, what is asked of it, and what follows from it.
+#![tactic(auto)]
+
 mod energy;
 mod fault;
 mod limits;

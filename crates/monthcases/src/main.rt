@@ -1,5 +1,7 @@
 // Reads a table of month files, a line `name:hex` for each, and prints what each is read as.
 // A name that begins with `prefixes-` stands for every prefix of its file, printed in runs of one outcome.
+#![tactic(auto)]
+
 mod hex;
 mod outcome;
 mod prefixes;

@@ -99,7 +99,7 @@ fn field_by_field(rt: HostRuntime) -> Result<(), Fail> {
     let Ok(value) = reader.field(any) else {
         return Err(Fail::new("no field"));
     };
-    assert!(rt; value == b"\xab\xcd" && number(value) == Some(43981));
+    assert!(rt; value == b"\xab\xcd".as_slice() && number(value) == Some(43981));
     assert!(rt; reader.next_offset() == Some(5));
     let Err(fault) = reader.field(any) else {
         return Err(Fail::new("a field"));
@@ -115,5 +115,5 @@ fn written_head(rt: HostRuntime) {
     assert!(rt; put(&mut buffer, 1, &head(2, 258)) == Some(4));
     assert!(rt; put(&mut buffer, 3, &head(2, 258)) == None);
     assert!(rt; put(&mut buffer, 9, &head(2, 258)) == None);
-    assert!(rt; &buffer[..] == b"\x07\x02\x01\x02\x07");
+    assert!(rt; &buffer[..] == b"\x07\x02\x01\x02\x07".as_slice());
 }

@@ -1,4 +1,6 @@
 // Reads one month file from standard input and prints what it states and what follows from it, or why it is refused.
+#![tactic(auto)]
+
 mod report;
 
 use crate::report::print_month;

@@ -1,4 +1,6 @@
 // The month file: which bytes state which month.
+#![tactic(auto)]
+
 mod entry;
 mod layout;
 mod reading;

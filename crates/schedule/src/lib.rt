@@ -1,4 +1,6 @@
 // Schedules: rows of mechanisms, numbered from 0.
+#![tactic(auto)]
+
 mod four;
 mod joined;
 mod schedule;

@@ -9,6 +9,6 @@ returns c =
     let s = c.args.self.now in
     record {
       alone = refl;
-      base_rate = λ before fit. sym (ap (λ p. p.0) (last_answered (λ f. (s.rate, s.rate * sold f)) before (figures c.args.-month.now)));
+      base_rate = λ before fit. sym (ap (λ p. p.0) (last_answered (λ f. (s.rate, s.rate * sold f)) before (figures c.args._month.now)));
       limit = λ fit. s.limit;
     }
