@@ -1,10 +1,9 @@
 -- Input and losses of the latest twelve months.
-use Rattle.std.specs.Prelude.{◌≡◌, ℕ, ◌+◌, ◌-◌, ◌*◌, ◌/◌, ◌≤◌, min, List, [], ◌∷◌, map, length, fold, sum_by}
+use Rattle.std.specs.Prelude.{◌≡◌, ℕ, ◌+◌, ◌-◌, ◌*◌, ◌/◌, ◌≤◌, min, List, [], ◌∷◌, map, length, fold, sum_by, slice_index_or, All}
 use Rattle.std.proofs.Common.{sym, ap, ◌∙◌, arith}
 use Rattle.std.proofs.lemmas.Simd.{map-map}
-use Rattle.std.specs.List.{AllByRecursion as All}
 use Rattle.std.proofs.lemmas.Nat.{div_below}
-use Rattle.std.proofs.ByRecursion.{All-drop}
+use Rattle.std.proofs.lemmas.List.Elements.{All-head, All-tail, All-drop, All-map}
 use Rattle.std.proofs.lemmas.List.Sums.{sum_by-cons}
 use Rattle.bounded.specs.Ends.{latest}
 use Rattle.bounded.proofs.Ends.{latest_map}
@@ -46,8 +45,8 @@ pub record Kept (n : ℕ) (e : Energy) : Type 0 where
 sums_kept : (ms : List Figures) → All Valid ms → Kept (length ms) (record { input = sum_by (λ m. m.energy.input) ms; substation = sum_by (λ m. m.energy.substation) ms; feeder = sum_by (λ m. m.energy.feeder) ms })
 sums_kept [] a = record { losses = omega arith; least = omega arith; most = omega arith }
 sums_kept (m ∷ ms) a =
-    let v = a.0 in
-    let rest = sums_kept ms a.1 in
+    let v = All-head Valid m ms a in
+    let rest = sums_kept ms (All-tail Valid m ms a) in
     let i = sum_by-cons (λ (f : Figures). f.energy.input) m ms in
     let s = sum_by-cons (λ (f : Figures). f.energy.substation) m ms in
     let l = sum_by-cons (λ (f : Figures). f.energy.feeder) m ms in
@@ -58,8 +57,7 @@ sums_kept (m ∷ ms) a =
     }
 
 pub months_valid : (ms : List Month) → All Valid (map figures ms)
-months_valid [] = tt
-months_valid (m ∷ ms) = (month_valid m, months_valid ms)
+months_valid ms = All-map Valid figures ms (λ k m h. month_valid (slice_index_or ms k m))
 
 pub twelve_kept : (ms : List Figures) → All Valid ms → Kept (length (latest 12 ms)) (twelve_months ms)
 twelve_kept ms a = sums_kept (latest 12 ms) (All-drop Valid (length ms - 12) ms a)

@@ -2,6 +2,7 @@
 use Rattle.std.specs.Prelude.{◌≡◌, ℕ, ◌+◌, ◌-◌, ◌<◌, true, false, List, [], ◌∷◌, ◌++◌, map, length, take, nat_lt, slice_index_or, refl}
 use Rattle.std.proofs.Common.{sym, ap, ◌∙◌, arith}
 use Rattle.std.proofs.lemmas.List.{nil_from_length, take_all, map_more}
+use Rattle.std.proofs.lemmas.List.Elements.{All-head, All-tail}
 use Rattle.std.proofs.lemmas.Bool.{ltb-true, ltb-false}
 use Rattle.month.specs.declared.month.Month.{Month}
 use Rattle.month.specs.Figures.{Figures}
@@ -17,8 +18,8 @@ last_answered answer (x ∷ y ∷ ys) m = last_answered answer (y ∷ ys) m
 
 -- what is known of the last of fit months
 pub last_fit : (k : Meaning) (before : List Figures) (m : Figures) → FitMonths k (before ++ m ∷ []) → Valid m × (k.fit m ≡ true)
-last_fit k [] m a = a.0
-last_fit k (x ∷ xs) m a = last_fit k xs m a.1
+last_fit k [] m a = All-head (λ f. Valid f × (k.fit f ≡ true)) m [] a
+last_fit k (x ∷ xs) m a = last_fit k xs m (All-tail (λ f. Valid f × (k.fit f ≡ true)) x (xs ++ m ∷ []) a)
 
 -- a slice of months, as it is told whether it has a last one
 module _ (ms : List Month) where

@@ -2,7 +2,7 @@
 use Rattle.std.specs.Prelude.{◌≡◌, ℕ, ◌+◌, ◌-◌, ◌*◌, ◌≤◌, Bool, true, cond, ◌&&◌, List, [], ◌∷◌, ◌++◌, map, length, nat_lt, slice_index_or}
 use Rattle.std.proofs.Common.{◌∙◌, sym, ap, subst, arith}
 use Rattle.std.proofs.lemmas.Nat.{mul-le}
-use Rattle.std.proofs.ByRecursion.{All-weaker}
+use Rattle.std.proofs.lemmas.List.Elements.{All-weaker}
 use Rattle.std.proofs.lemmas.List.{length_push}
 use Rattle.std.proofs.lemmas.Bool.{and_parts}
 use Rattle.bounded.proofs.Ends.{latest_length}
@@ -47,7 +47,7 @@ module _ (g t : Meaning) (priced-g : LawfulPrice g) (priced-t : LawfulPrice t) (
       let known = last_fit (loss g t cap) before m fit in
       let v = known.0 in
       let both = and_parts (g.fit m) (t.fit m) known.1 in
-      let kept = twelve_kept ms (All-weaker _ Valid (λ f h. h.0) ms fit) in
+      let kept = twelve_kept ms (All-weaker (λ f. Valid f × ((loss g t cap).fit f ≡ true)) Valid (λ f h. h.0) ms fit) in
       let few = latest_length 12 ms in
       let long = length_push before m in
       let u = gross_up cap (twelve_months ms) in

@@ -1,8 +1,8 @@
 -- How large a month's lifeline discount is.
-use Rattle.std.proofs.Common.{◌≡◌, ℕ, ◌+◌, ◌*◌, ◌/◌, ◌<◌, ◌≤◌, ltb, List, [], ◌∷◌, length, get_or, sum_by, sym, refl, ap, ◌∙◌, subst, mul-zero, arith}
-use Rattle.std.specs.List.{AllByRecursion as All}
+use Rattle.std.proofs.Common.{◌≡◌, ℕ, ◌+◌, ◌*◌, ◌/◌, ◌<◌, ◌≤◌, ltb, List, [], ◌∷◌, length, get_or, sum_by, sym, refl, ap, ◌∙◌, subst, mul-zero, arith, All}
 use Rattle.std.proofs.lemmas.Nat.{mul-le}
-use Rattle.std.proofs.ByRecursion.{All-weaker, All-get_or, sum_by_le}
+use Rattle.std.proofs.lemmas.List.Elements.{All-weaker, All-get_or}
+use Rattle.std.proofs.lemmas.List.Sums.{sum_by-le}
 use Rattle.std.proofs.lemmas.List.Sums.{sum_by-cons}
 use Rattle.std.proofs.lemmas.Bool.{cond_both, ltb-false}
 use Rattle.month.specs.declared.month.Month.{Month}
@@ -40,7 +40,7 @@ module _ (m : Month) where
   sum_most =
       let v = month_valid m in
       let s = m.statement.sales in
-      omega (arith, v.counted.few_brackets, sum_by_le (granted s) 1100000000000000 (figures m).brackets (All-weaker BracketWithin (λ b. granted s b ≤ 1100000000000000) (λ b h. granted_most s b v.within.rate_most v.within.metering_most h) (figures m).brackets v.within.brackets))
+      omega (arith, v.counted.few_brackets, sum_by-le (granted s) 1100000000000000 (figures m).brackets (All-weaker BracketWithin (λ b. granted s b ≤ 1100000000000000) (λ b h. granted_most s b v.within.rate_most v.within.metering_most h) (figures m).brackets v.within.brackets))
 
 -- a bracket of 0 percent adds nothing, so that it may be passed over
 module _ (s : Sales) (b : Bracket) where

@@ -1,8 +1,8 @@
 -- What is asked of each element of a list.
-use Rattle.std.specs.Prelude.{◌≡◌, ℕ, ◌+◌, ◌<◌, ◌≤◌, Bool, true, false, ◌&&◌, List, [], ◌∷◌, length, drop, slice_index_or, refl}
+use Rattle.std.specs.Prelude.{◌≡◌, ℕ, ◌+◌, ◌<◌, ◌≤◌, Bool, true, false, ◌&&◌, List, [], ◌∷◌, length, drop, slice_index_or, refl, All}
 use Rattle.std.proofs.Common.{sym, ap, ◌∙◌}
-use Rattle.std.specs.List.{AllByRecursion as All}
 use Rattle.std.proofs.lemmas.List.{at_drop_more, at_drop_all}
+use Rattle.std.proofs.lemmas.List.Elements.{All-nil, All-cons, All-head, All-tail}
 use Rattle.std.proofs.lemmas.Bool.{and_parts, and_from, and_left}
 use Rattle.month.specs.Asked.{every}
 
@@ -20,9 +20,9 @@ module _ {X : Type 0} (p : X → Bool) (xs : List X) (i : ℕ) (so_far : every p
 -- a test of each element, and the fact that it tells
 module _ {X : Type 0} (p : X → Bool) (P : X → Type 0) where
   pub all_from_every : ((x : X) → p x ≡ true → P x) → (xs : List X) → every p xs ≡ true → All P xs
-  all_from_every tells [] e = tt
-  all_from_every tells (x ∷ xs) e = let parts = and_parts (p x) (every p xs) e in (tells x parts.0, all_from_every tells xs parts.1)
+  all_from_every tells [] e = All-nil P
+  all_from_every tells (x ∷ xs) e = let parts = and_parts (p x) (every p xs) e in All-cons P x xs (tells x parts.0) (all_from_every tells xs parts.1)
 
   pub every_from_all : ((x : X) → P x → p x ≡ true) → (xs : List X) → All P xs → every p xs ≡ true
   every_from_all tests [] a = refl
-  every_from_all tests (x ∷ xs) a = and_from (p x) (every p xs) (tests x a.0) (every_from_all tests xs a.1)
+  every_from_all tests (x ∷ xs) a = and_from (p x) (every p xs) (tests x (All-head P x xs a)) (every_from_all tests xs (All-tail P x xs a))

@@ -1,6 +1,5 @@
 -- The facts that questions 6 to 11 ask, in plain numbers: a month that exists has them all.
-use Rattle.std.specs.Prelude.{◌+◌, ◌*◌, ◌<◌, ◌≤◌, pos, ◌≤ℤ◌, sum_by}
-use Rattle.std.specs.List.{AllByRecursion as All}
+use Rattle.std.specs.Prelude.{◌+◌, ◌*◌, ◌<◌, ◌≤◌, pos, ◌≤ℤ◌, sum_by, All}
 use Rattle.month.specs.declared.parts.Source.{Source}
 use Rattle.month.specs.declared.parts.Bracket.{Bracket}
 use Rattle.month.specs.Amounts.{cost_of, generation_formula, transmission_formula, sold}

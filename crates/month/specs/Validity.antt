@@ -1,10 +1,9 @@
 -- Questions 6 to 11 answered yes, and valid figures, are the same.
-use Rattle.std.specs.Prelude.{◌≡◌, ℕ, ◌+◌, ◌*◌, ◌≤◌, Bool, true, false, ◌&&◌, List, [], ◌∷◌, is_some, is_ok, Some, None, Ok, Err, sum_by, Option, Result, MatchResult, nat_le, nat_lt, refl}
+use Rattle.std.specs.Prelude.{◌≡◌, ℕ, ◌+◌, ◌*◌, ◌≤◌, Bool, true, false, ◌&&◌, List, [], ◌∷◌, is_some, is_ok, Some, None, Ok, Err, sum_by, Option, Result, MatchResult, nat_le, nat_lt, refl, All}
 use Rattle.std.proofs.Common.{sym, ◌∙◌, arith}
-use Rattle.std.specs.List.{AllByRecursion as All}
-use Rattle.std.proofs.ByRecursion.{All-weaker, sum_by_le}
+use Rattle.std.proofs.lemmas.List.Elements.{All-weaker, All-head, All-tail}
 use Rattle.std.proofs.lemmas.Int.{ints}
-use Rattle.std.proofs.lemmas.List.Sums.{sum_by-cons}
+use Rattle.std.proofs.lemmas.List.Sums.{sum_by-cons, sum_by-le}
 use Rattle.std.proofs.lemmas.Bool.{and_parts, and_from, leb-true, le-leb, ltb-true, lt-ltb}
 use Rattle.bounded.proofs.Held.{held_most}
 use Rattle.fields.specs.Questions.{first_no}
@@ -103,7 +102,7 @@ module _ (f : Figures) where
   )
 
   sources_sum : (g : Source → ℕ) → ((s : Source) → SourceWithin s → g s ≤ 5000000000) → Counted f → Within f → sum_by g f.sources ≤ 40000000000
-  sources_sum g small few w = omega (arith, few.few_sources, sum_by_le g 5000000000 f.sources (All-weaker SourceWithin (λ s. g s ≤ 5000000000) small f.sources w.sources))
+  sources_sum g small few w = omega (arith, few.few_sources, sum_by-le g 5000000000 f.sources (All-weaker SourceWithin (λ s. g s ≤ 5000000000) small f.sources w.sources))
 
   pub bounded : Counted f → Within f → Bounded f
   bounded few w = record {
@@ -118,7 +117,7 @@ module _ (f : Figures) where
     feeder = w.feeder_most;
     generation_exempt = w.generation_exempt_most;
     transmission_exempt = w.transmission_exempt_most;
-    sales = omega (arith, few.few_brackets, w.nonlifeline_most, sum_by_le kwh_of 10000000 f.brackets (All-weaker BracketWithin (λ b. b.kwh ≤ 10000000) (λ b h. h.kwh_most) f.brackets w.brackets));
+    sales = omega (arith, few.few_brackets, w.nonlifeline_most, sum_by-le kwh_of 10000000 f.brackets (All-weaker BracketWithin (λ b. b.kwh ≤ 10000000) (λ b h. h.kwh_most) f.brackets w.brackets));
   }
 
   pub bounded_from_yes : Counted f → first_no (limits_asked f) ≡ None → Bounded f
@@ -172,7 +171,7 @@ module _ (f : Figures) where
 
 sum_by_mono : {X : Type 0} (g h : X → ℕ) (xs : List X) → All (λ x. g x ≤ h x) xs → sum_by g xs ≤ sum_by h xs
 sum_by_mono g h [] a = omega arith
-sum_by_mono g h (x ∷ xs) a = omega (arith, sum_by-cons g x xs, sum_by-cons h x xs, a.0, sum_by_mono g h xs a.1)
+sum_by_mono g h (x ∷ xs) a = omega (arith, sum_by-cons g x xs, sum_by-cons h x xs, All-head (λ y. g y ≤ h y) x xs a, sum_by_mono g h xs (All-tail (λ y. g y ≤ h y) x xs a))
 
 pub sum_passed : (f : Figures) → Valid f → sum_by passed_of f.sources ≤ sum_by taken_of f.sources
 sum_passed f v = sum_by_mono passed_of taken_of f.sources v.sources_passed

@@ -1,6 +1,5 @@
 // What every schedule is.
-ghost use Rattle.std.specs.Prelude.{◌≡◌, ◌≤◌, List, map, length};
-ghost use Rattle.std.specs.List.{AllByRecursion as All};
+ghost use Rattle.std.specs.Prelude.{◌≡◌, ◌≤◌, List, map, length, All};
 ghost use Rattle.month.specs.View.{figures};
 ghost use Rattle.charges.specs.Meaning.{Meaning, Lawful};
 ghost use Rattle.schedule.specs.Rows.{numbered, told};

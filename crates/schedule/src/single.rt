@@ -1,5 +1,7 @@
 // A schedule of one mechanism.
 ghost use Rattle.std.specs.Prelude.{[], ◌∷◌};
+ghost use Rattle.std.proofs.lemmas.List.Elements.{All-nil, All-cons};
+ghost use Rattle.charges.specs.Meaning.{Lawful};
 
 use crate::schedule::Schedule;
 use charges::Mechanism;
@@ -13,7 +15,7 @@ pub struct Single<M> {
 impl<M: Mechanism> Schedule for Single<M> {
     ghost meaning = { λ s. M.Mechanism.meaning s.mechanism ∷ [] };
 
-    ghost lawful = { λ s. (M.Mechanism.lawful s.mechanism, tt) };
+    ghost lawful = { λ s. All-cons Lawful (M.Mechanism.meaning s.mechanism) [] (M.Mechanism.lawful s.mechanism) (All-nil Lawful) };
 
     fn count(&self) -> usize {
         1

@@ -2,6 +2,8 @@
 ghost use Rattle.std.specs.Prelude.{◌≡◌, ◌≤◌, MatchResult};
 ghost use Rattle.charges.specs.Making.{NotMade};
 ghost use Rattle.schedule.specs.Four.{four_charges, cap_of};
+ghost use Rattle.std.proofs.lemmas.List.Elements.{All-from_recursion};
+ghost use Rattle.charges.specs.Meaning.{Lawful};
 ghost use Rattle.charges.specs.ChargesLemmas.{generation_lawful, transmission_lawful, loss_of_both_lawful, lifeline_lawful};
 
 use super::FourCharges;
@@ -43,7 +45,7 @@ impl FourCharges {
 impl Schedule for FourCharges {
     ghost meaning = { λ s. four_charges (cap_of s) };
 
-    ghost lawful = { λ s. (generation_lawful, (transmission_lawful, (loss_of_both_lawful (cap_of s), (lifeline_lawful, tt)))) };
+    ghost lawful = { λ s. All-from_recursion Lawful (four_charges (cap_of s)) (generation_lawful, (transmission_lawful, (loss_of_both_lawful (cap_of s), (lifeline_lawful, tt)))) };
 
     fn count(&self) -> usize {
         self.row.count()

@@ -1,7 +1,7 @@
 // What two schedules in a row answer.
 ghost use Rattle.std.specs.Prelude.{◌≤◌, ◌++◌};
 ghost use Rattle.schedule.specs.Sides.{Found};
-ghost use Rattle.std.proofs.ByRecursion.{All-append};
+ghost use Rattle.std.proofs.lemmas.List.Elements.{All-append};
 ghost use Rattle.charges.specs.Meaning.{Lawful};
 
 use super::{Joined, Side};

@@ -1,15 +1,13 @@
-use Rattle.std.proofs.Common.{◌≡◌, ℕ, ◌+◌, ◌-◌, ◌*◌, ◌<◌, ◌≤◌, min, List, [], ◌∷◌, map, length, get_or, take, drop, fold, sum_by, sym, ap, ◌∙◌, mul-le-mul_right, arith}
-use Rattle.std.specs.List.{AllByRecursion as All}
+use Rattle.std.proofs.Common.{◌≡◌, ℕ, ◌+◌, ◌-◌, ◌*◌, ◌<◌, ◌≤◌, min, List, map, length, get_or, take, drop, fold, sum_by, sym, ap, ◌∙◌, mul-le-mul_right, arith, All}
 use Rattle.std.proofs.lemmas.List.{length-map, length-take-le, map_more, take_all}
-use Rattle.std.proofs.lemmas.List.Sums.{fold_push, sum_by_push}
-use Rattle.std.proofs.ByRecursion.{sum_by_le}
+use Rattle.std.proofs.lemmas.List.Sums.{fold_push, sum_by_push, sum_by-le}
+use Rattle.std.proofs.lemmas.List.Elements.{All-map}
 use Rattle.bounded.proofs.Ends.{part, latest_length}
 use Rattle.bounded.proofs.rolling.rolling_total.Goals as goal
 
 module _ {X F : Type 0} (carried : X → F) (plus : F → F → F) (zero : F) (size : F → ℕ) (m : ℕ) (small : (y : X) → size (carried y) ≤ m) where
   all_small : (xs : List X) → All (λ y. size y ≤ m) (map carried xs)
-  all_small [] = tt
-  all_small (x ∷ xs) = (small x, all_small xs)
+  all_small xs = All-map (λ y. size y ≤ m) carried xs (λ k x h. small _)
 
   -- the total after one value more
   record Turn (xs : List X) (i : ℕ) (x : X) : Type 0 where
@@ -26,7 +24,7 @@ module _ {X F : Type 0} (carried : X → F) (plus : F → F → F) (zero : F) (s
       record {
         more = ap (fold plus zero) pushed ∙ fold_push plus zero front (carried (get_or xs i x)) ∙ ap (plus (fold plus zero front)) (ap carried (sym is));
         sizes = ap (sum_by size) pushed ∙ sum_by_push size front (carried (get_or xs i x)) ∙ ap (λ y. sum_by size front + size (carried y)) (sym is);
-        most = omega (arith, sum_by_le size m next (all_small (take (i + 1) xs)), mul-le-mul_right m long);
+        most = omega (arith, sum_by-le size m next (all_small (take (i + 1) xs)), mul-le-mul_right m long);
       }
 
 pub loop-value-preserved : goal.loop-value-preserved
