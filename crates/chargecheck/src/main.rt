@@ -10,6 +10,7 @@ use monthfile::read_month;
 use schedule::FourCharges;
 use std::fmt::Display;
 use std::io::Read;
+use std::process::ExitCode;
 use std::{env, io};
 
 // The cap on the feeder loss where no argument gives one, in hundredths of a percent.
@@ -73,10 +74,10 @@ fn check_input(rt: &HostRuntime) -> anyhow::Result<bool> {
 
 // Ends with status 1 where something is refused or not fit; and where the argument is none, or something cannot be read or written, which
 // is then said on standard error.
-fn main(rt: HostRuntime) -> anyhow::Result<()> {
+fn main(rt: HostRuntime) -> anyhow::Result<ExitCode> {
     if check_input(&rt)? {
-        Ok(())
+        Ok(ExitCode::SUCCESS)
     } else {
-        Err(anyhow!("refused"))
+        Ok(ExitCode::FAILURE)
     }
 }

@@ -4,9 +4,9 @@
 mod report;
 
 use crate::report::print_month;
-use anyhow::anyhow;
 use monthfile::read_month;
 use std::io::Read;
+use std::process::ExitCode;
 
 // Whether the file was accepted.
 fn check_input(rt: &HostRuntime) -> anyhow::Result<bool> {
@@ -26,10 +26,10 @@ fn check_input(rt: &HostRuntime) -> anyhow::Result<bool> {
 }
 
 // Ends with status 1 where the file is refused, and where it cannot be read, which is then said on standard error.
-fn main(rt: HostRuntime) -> anyhow::Result<()> {
+fn main(rt: HostRuntime) -> anyhow::Result<ExitCode> {
     if check_input(&rt)? {
-        Ok(())
+        Ok(ExitCode::SUCCESS)
     } else {
-        Err(anyhow!("refused"))
+        Ok(ExitCode::FAILURE)
     }
 }
