@@ -2,12 +2,12 @@ pub mod Amounts
 pub mod Asked
 pub mod Bounds
 pub mod Energies
+pub mod Every
 pub mod Figures
 pub mod Making
 pub mod Refusals
 pub mod Stated
 pub mod Valid
+pub mod Validity
 pub mod View
 pub mod Words
-pub mod Validity
-pub mod Every
