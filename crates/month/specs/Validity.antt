@@ -5,6 +5,7 @@ use Rattle.std.proofs.lemmas.List.Elements.{All-weaker, All-head, All-tail}
 use Rattle.std.proofs.lemmas.Int.{ints}
 use Rattle.std.proofs.lemmas.List.Sums.{sum_by-cons, sum_by-le}
 use Rattle.std.proofs.lemmas.Bool.{and_parts, and_from, leb-true, le-leb, ltb-true, lt-ltb}
+use Rattle.bounded.specs.Sizes.{greatest_of_36}
 use Rattle.bounded.proofs.Held.{held_most}
 use Rattle.fields.specs.Questions.{first_no}
 use Rattle.fields.proofs.Asked.{all_yes, none_from_yes, first_no_after, some_none}
@@ -16,6 +17,7 @@ use Rattle.month.specs.declared.statement.Statement.{Statement}
 use Rattle.month.specs.Amounts.{cost_of, taken_of, passed_of, kwh_of, sold}
 use Rattle.month.specs.Asked.{centavos_within, kwh_within, million_within, source_within, energy_within, exempt_within, bracket_within, passed_on_within, limits_asked, rules_asked, month_asked}
 use Rattle.month.specs.Bounds.{Bounded}
+use Rattle.month.specs.Energies.{energy_size}
 use Rattle.month.specs.Figures.{Figures, Counted}
 use Rattle.month.specs.Making.{Made, NotMade}
 use Rattle.month.specs.Stated.{stated}
@@ -189,6 +191,10 @@ month_valid m = valid_from_yes (figures m) (counted m.statement) (none_from _ m.
 
 pub month_bounded : (m : Month) → Bounded (figures m)
 month_bounded m = let v = month_valid m in bounded (figures m) v.counted v.within
+
+-- a month's energy is such that 36 of it still add up
+pub energy_small : (m : Month) → energy_size (figures m).energy ≤ greatest_of_36
+energy_small m = let w = (month_valid m).within in omega (arith, w.input_most, w.substation_most, w.feeder_most)
 
 -- valid figures are never refused
 pub valid_made : (s : Statement) (r : Result Month MonthFault) → MatchResult r (λ m. Made s m) (λ e. NotMade s e) → Valid (stated s) → is_ok r ≡ true

@@ -2,8 +2,8 @@
 ghost use Rattle.bounded.specs.Sizes.{greatest_of_36};
 ghost use Rattle.month.specs.Energies.{no_energy, added, energy_size, stored_energy};
 ghost use Rattle.month.specs.View.{figures};
-ghost use Rattle.std.proofs.Common.{rules, arith};
-ghost use Rattle.month.specs.Validity.{month_valid};
+ghost use Rattle.std.proofs.Common.{rules};
+ghost use Rattle.month.specs.Validity.{energy_small};
 
 use crate::month::Month;
 use crate::parts::Energy;
@@ -52,7 +52,7 @@ impl Adds for Energy {
 impl Carries<Energy> for Month {
     ghost carried = { λ m. (figures m).energy };
 
-    ghost small = { λ m. let w = (month_valid m).within in omega (arith, w.input_most, w.substation_most, w.feeder_most) };
+    ghost small = { energy_small };
 
     fn figure(&self) -> Energy {
         self.statement().energy

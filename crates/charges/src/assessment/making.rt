@@ -1,9 +1,7 @@
 // Making an assessment of an answer, and its allowance as a figure that adds up.
-ghost use Rattle.std.specs.Prelude.{◌≡◌, ◌+◌, MatchOption};
+ghost use Rattle.std.specs.Prelude.{◌≡◌, MatchOption};
 ghost use Rattle.charges.specs.Meaning.{LawfulAnswer};
-ghost use Rattle.charges.specs.Assessed.{allowance_of};
-ghost use Rattle.std.proofs.Common.{arith};
-ghost use Rattle.std.proofs.lemmas.Nat.{mul-le};
+ghost use Rattle.charges.specs.Assessed.{allowance_of, allowance_small};
 
 use super::Assessment;
 use crate::limits;
@@ -33,7 +31,7 @@ impl Assessment {
 impl Carries<u64> for Assessment {
     ghost carried = { allowance_of };
 
-    ghost small = { λ a. omega (arith, a.tight, mul-le (a.rate + 1) a.quantity 10000001 10000000 (omega (arith, a.limit)) a.most) };
+    ghost small = { allowance_small };
 
     fn figure(&self) -> u64 {
         self.allowance

@@ -9,11 +9,12 @@ pub overflow_mul-n : goal.overflow_mul-n
 overflow_mul-n c = omega (arith, room c.loop-b.b-index c.loop-b.n (omega arith) c.loop-b.invariant.1)
 
 pub overflow_add-n : goal.overflow_add-n
-overflow_add-n c = omega (arith, room c.loop-b.b-index c.loop-b.n (omega arith) c.loop-b.invariant.1, c.type_inv.part c.loop-b.b-index)
+overflow_add-n c = let i = c.loop-b.b-index in omega (arith, room i c.loop-b.n (omega arith) c.loop-b.invariant.1, c.type_inv.part i)
 
 pub loop-b-preserved : goal.loop-b-preserved
 loop-b-preserved c =
-    let small : c.from.result < 256 = omega (arith, c.type_inv.part c.loop-b.b-index) in
+    let i = c.loop-b.b-index in
+    let small : c.from.result < 256 = omega (arith, c.type_inv.part i) in
     (be_more _ _ _ _ c.loop-b-test.true c.from.ensures small c.loop-b.invariant.0 c.loop-b.invariant.1, below_more _ _ _ c.loop-b.invariant.1 small)
 
 pub returns : goal.returns
