@@ -4,17 +4,6 @@ use Rattle.std.proofs.lemmas.List.{at_drop_more, at_drop_all}
 use Rattle.std.proofs.lemmas.Bool.{cond-true, cond-false}
 use Rattle.fields.specs.Questions.{first_no, answered, carried}
 
--- the first i questions are answered yes
-module _ {F : Type 0} (qs : List (Bool × F)) (i : ℕ) (so_far : first_no qs ≡ first_no (drop i qs)) where
-  pub ask_more : (q : Bool × F) → i < length qs → q ≡ get_or qs i q → q.0 ≡ true → first_no qs ≡ first_no (drop (i + 1) qs)
-  ask_more q h is is_yes = so_far ∙ at_drop_more first_no qs i q h ∙ cond-true _ _ _ (ap (λ x. x.0) (sym is) ∙ is_yes)
-
-  pub ask_stop : (q : Bool × F) → i < length qs → q ≡ get_or qs i q → q.0 ≡ false → Err q.1 ≡ answered (first_no qs)
-  ask_stop q h is is_no = sym (ap answered (so_far ∙ at_drop_more first_no qs i q h ∙ cond-false _ _ _ (ap (λ x. x.0) (sym is) ∙ is_no) ∙ ap (λ x. Some x.1) (sym is)))
-
-  pub ask_all : length qs ≤ i → Ok tt ≡ answered (first_no qs)
-  ask_all h = sym (ap answered (so_far ∙ at_drop_all first_no qs i h))
-
 module _ {F : Type 0} where
   pub answered_ok : {u : Unit} (o : Option F) → Ok u ≡ answered o → o ≡ None
   answered_ok None e = refl

@@ -45,33 +45,32 @@ module _ (bs : List ℕ) (p : ℕ) (d : Due) (whole : 3 ≤ length (rest_at bs p
   pub wrong_tag : (get_or (rest_at bs p) 0 0 ≡ d.tag → ⊥) → first_no (field_asked bs p d) ≡ Some (WrongTag p)
   wrong_tag ne = rw (le-leb _ _ head_within, ne_eqb _ _ (λ e. ne (tag_is ∙ e)))
 
-  module _ (hi lo : ℕ) (is : get_or (rest_at bs p) 0 0 ≡ d.tag) (his : hi ≡ get_or (rest_at bs p) 1 0) (los : lo ≡ get_or (rest_at bs p) 2 0) where
-    size_is : size_at bs p ≡ hi * 256 + lo
+  module _ (n : ℕ) (is : get_or (rest_at bs p) 0 0 ≡ d.tag) (stated : n ≡ get_or (rest_at bs p) 1 0 * 256 + get_or (rest_at bs p) 2 0) where
+    size_is : size_at bs p ≡ n
     size_is = omega (arith, rest_get_or bs p 1, rest_get_or bs p 2)
 
-    pub wrong_length : may d (hi * 256 + lo) ≡ false → first_no (field_asked bs p d) ≡ Some (WrongLength p)
+    pub wrong_length : may d n ≡ false → first_no (field_asked bs p d) ≡ Some (WrongLength p)
     wrong_length no_way = rw (le-leb _ _ head_within, eq-eqb _ _ (sym tag_is ∙ is), ap (may d) size_is, no_way)
 
-    pub cut_short : may d (hi * 256 + lo) ≡ true → length (past_head bs p) < hi * 256 + lo → first_no (field_asked bs p d) ≡ Some (CutShort p)
+    pub cut_short : may d n ≡ true → length (past_head bs p) < n → first_no (field_asked bs p d) ≡ Some (CutShort p)
     cut_short way less =
-        let short : length bs < p + 3 + (hi * 256 + lo) = omega (arith, ap length (past_is bs p) ∙ length-drop (p + 3) bs) in
+        let short : length bs < p + 3 + n = omega (arith, ap length (past_is bs p) ∙ length-drop (p + 3) bs) in
         rw (le-leb _ _ head_within, eq-eqb _ _ (sym tag_is ∙ is), size_is, way, lt-leb _ _ short)
 
-    module _ (low : lo < 256) (way : may d (hi * 256 + lo) ≡ true) (fits : hi * 256 + lo ≤ length (past_head bs p)) where
-      pub in_file : p + 3 + (hi * 256 + lo) ≤ length bs
+    module _ (low : get_or (rest_at bs p) 2 0 < 256) (way : may d n ≡ true) (fits : n ≤ length (past_head bs p)) where
+      pub in_file : p + 3 + n ≤ length bs
       in_file = omega (arith, head_within, ap length (past_is bs p) ∙ length-drop (p + 3) bs)
 
-      pub took : Took bs p (p + 3 + (hi * 256 + lo)) d (take (hi * 256 + lo - 0) (past_head bs p))
+      pub took : Took bs p (p + 3 + n) d (take (n - 0) (past_head bs p))
       took =
-          let n : ℕ = hi * 256 + lo in
           let value : take (n - 0) (past_head bs p) ≡ take n (drop (p + 3) bs) = ap (λ k. take k (past_head bs p)) (sub-zero n) ∙ ap (take n) (past_is bs p) in
           let long : length (take n (drop (p + 3) bs)) ≡ n = length-take-le n _ (rw length-drop (omega (arith, in_file))) in
-          let first = ap (λ k. k / 256) long ∙ div-mul-add hi 256 lo low in
-          let second = ap (λ k. k % 256) long ∙ mod-mul-add hi 256 lo low in
-          let head = head_split bs p head_within in
-          let tag = tag_is in
           let one = rest_get_or bs p 1 in
           let two = rest_get_or bs p 2 in
+          let first : length (take n (drop (p + 3) bs)) / 256 ≡ get_or (rest_at bs p) 1 0 = ap (λ k. k / 256) (long ∙ stated) ∙ div-mul-add (get_or (rest_at bs p) 1 0) 256 (get_or (rest_at bs p) 2 0) low in
+          let second : length (take n (drop (p + 3) bs)) % 256 ≡ get_or (rest_at bs p) 2 0 = ap (λ k. k % 256) (long ∙ stated) ∙ mod-mul-add (get_or (rest_at bs p) 1 0) 256 (get_or (rest_at bs p) 2 0) low in
+          let head = head_split bs p head_within in
+          let tag = tag_is in
           let tail : take n (drop (p + 3) bs) ++ drop (p + 3 + n) bs ≡ drop (p + 3) bs = rw (← drop-drop n (p + 3) bs) (take-append-drop n (drop (p + 3) bs)) in
           subst (Took bs p (p + 3 + n) d) (sym value) (record {
             asked = rw (le-leb _ _ head_within, eq-eqb _ _ (sym tag_is ∙ is), size_is, way, le-leb (p + 3 + n) (length bs) in_file);

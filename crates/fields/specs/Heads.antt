@@ -1,5 +1,5 @@
 -- What is asked of a field at an offset, and where reading it leads.
-use Rattle.std.specs.Prelude.{◌≡◌, ℕ, ◌+◌, ◌*◌, ◌/◌, ◌%◌, ◌<◌, ◌≤◌, Bool, cond, ◌&&◌, List, [], ◌∷◌, ◌++◌, length, drop, Some, None, Option, ◌==◌, nat_le, nat_lt, slice_index}
+use Rattle.std.specs.Prelude.{◌≡◌, ℕ, ◌+◌, ◌*◌, ◌/◌, ◌%◌, ◌<◌, ◌≤◌, Bool, if◌then◌else◌, ◌&&◌, List, [], ◌∷◌, ◌++◌, length, drop, Some, None, Option, ◌==◌, nat_le, nat_lt, slice_index}
 use Rattle.fields.specs.declared.due.Due.{Due}
 use Rattle.fields.specs.declared.fault.FieldFault.{FieldFault}
 use Rattle.fields.specs.declared.fault.FieldFault.TheVariants.{NoHead, WrongTag, WrongLength, CutShort}
@@ -46,4 +46,4 @@ pub record Stopped (bs : List ℕ) (p q : ℕ) (d : Due) (e : FieldFault) : Type
 
 -- the offset p of the next byte, unless the bytes end there
 abbrev pub next_offset : List ℕ → ℕ → Option ℕ
-next_offset bs p = cond (p == length bs) None (Some p)
+next_offset bs p = if p == length bs then None else Some p

@@ -1,5 +1,5 @@
 // Which field is due.
-ghost use Rattle.std.specs.Prelude.{◌≡◌, Decides};
+ghost use Rattle.std.specs.Prelude.{◌≡◌, ◌↔◌, IsTrue};
 ghost use Rattle.fields.specs.Heads.{may, Parts};
 
 // A field's tag, and its length: from `least` to `most` parts of `each` bytes.
@@ -15,7 +15,7 @@ impl Due {
     // Whether a value may have this length. Parts of no bytes allow none.
     pub fn allows(&self, size: usize) -> bool
         ensures is { result ≡ may self.now size }
-        ensures parts { Decides result (Parts self.now size) }
+        ensures parts { IsTrue result ↔ Parts self.now size }
     {
         self.each > 0
             && size % self.each == 0

@@ -15,11 +15,11 @@ pub enum FieldFault {
     CutShort(usize),
 }
 
-impl FieldFault {
-    pub fn refusal(&self) -> Refusal
-        ensures { result ≡ field_refusal self.now }
-    {
-        let (number, place) = match *self {
+impl From<FieldFault> for Refusal {
+    ghost from_gives = { λ e r. r ≡ field_refusal e };
+
+    fn from(fault: FieldFault) -> Refusal {
+        let (number, place) = match fault {
             FieldFault::NoHead(at) => (1, at),
             FieldFault::WrongTag(at) => (2, at),
             FieldFault::WrongLength(at) => (3, at),

@@ -10,11 +10,11 @@ mod refusal;
 mod room;
 mod writing;
 
-pub use asking::first_no;
+pub use asking::ask;
 pub use due::Due;
 pub use fault::FieldFault;
 pub use numbers::number;
 pub use reader::Reader;
 pub use refusal::{Layer, Refusal};
 pub use room::{ShortBuffer, ask_room};
-pub use writing::{eight_bytes, head, put, two_bytes};
+pub use writing::{BigEndian, head, put};

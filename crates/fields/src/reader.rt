@@ -33,7 +33,7 @@ impl<'a> Reader<'a> {
         if *tag != due.tag {
             return Err(FieldFault::WrongTag(at));
         }
-        let size = usize::from(*high) * 256 + usize::from(*low);
+        let size = usize::from(u16::from_be_bytes([*high, *low]));
         if !due.allows(size) {
             return Err(FieldFault::WrongLength(at));
         }

@@ -15,14 +15,14 @@ pub struct ShortBuffer {
     pub length: usize,
 }
 
-impl ShortBuffer {
-    pub fn refusal(&self) -> Refusal
-        ensures { result ≡ buffer_refusal self.now }
-    {
+impl From<ShortBuffer> for Refusal {
+    ghost from_gives = { λ b r. r ≡ buffer_refusal b };
+
+    fn from(short: ShortBuffer) -> Refusal {
         Refusal {
             number: 16,
             layer: Layer::Book,
-            place: self.length,
+            place: short.length,
         }
     }
 }

@@ -1,5 +1,5 @@
 // Heads and numbers as bytes, and bytes put into a buffer.
-ghost use Rattle.std.specs.Prelude.{◌≡◌, MatchOption};
+ghost use Rattle.std.specs.Prelude.{◌≡◌, ℕ, MatchOption};
 ghost use Rattle.fields.specs.Bytes.{be, head_of};
 ghost use Rattle.fields.specs.Places.{Written, NoRoom};
 
@@ -7,19 +7,32 @@ ghost use Rattle.fields.specs.Places.{Written, NoRoom};
 pub fn head(tag: u8, size: u16) -> [u8; 3]
     ensures { result ≡ head_of tag size }
 {
-    [tag, (size / 256) as u8, (size % 256) as u8]
+    let [high, low] = size.to_be_bytes();
+    [tag, high, low]
 }
 
-pub fn two_bytes(n: u16) -> [u8; 2]
-    ensures { result ≡ be 2 n }
-{
-    u16::to_be_bytes(n)
+// A number that stands in W bytes, the highest first.
+pub trait BigEndian<const W: usize> {
+    ghost number: { Self → ℕ };
+
+    fn be_bytes(self) -> [u8; W]
+        ensures { result ≡ be W (number self) };
 }
 
-pub fn eight_bytes(n: u64) -> [u8; 8]
-    ensures { result ≡ be 8 n }
-{
-    u64::to_be_bytes(n)
+impl BigEndian<2> for u16 {
+    ghost number = { λ n. n };
+
+    fn be_bytes(self) -> [u8; 2] {
+        u16::to_be_bytes(self)
+    }
+}
+
+impl BigEndian<8> for u64 {
+    ghost number = { λ n. n };
+
+    fn be_bytes(self) -> [u8; 8] {
+        u64::to_be_bytes(self)
+    }
 }
 
 // Puts the bytes into the buffer from `at` on, and answers where they end; where they do not fit, nothing is written.

@@ -31,15 +31,15 @@ module _ (s : Sales) (b : Bracket) (rate : s.rate ≤ 1000000) (metering : s.met
 
 module _ (m : Month) where
   -- the bracket at i of a month
-  pub bracket_bounded : (xs : List Bracket) (i : ℕ) (d : Bracket) → xs ≡ (figures m).brackets → i < length xs → BoundedBracket m.statement.sales (get_or xs i d)
+  pub bracket_bounded : (xs : List Bracket) (i : ℕ) (d : Bracket) → xs ≡ (figures m).brackets → i < length xs → BoundedBracket m.within.statement.sales (get_or xs i d)
   bracket_bounded xs i d e h =
       let w = (month_valid m).within in
-      bounded_bracket m.statement.sales (get_or xs i d) w.rate_most w.metering_most (All-get_or BracketWithin xs i d h (subst (All BracketWithin) (sym e) w.brackets))
+      bounded_bracket m.within.statement.sales (get_or xs i d) w.rate_most w.metering_most (All-get_or BracketWithin xs i d h (subst (All BracketWithin) (sym e) w.brackets))
 
-  pub sum_most : sum_by (granted m.statement.sales) (figures m).brackets ≤ 4400000000000000
+  pub sum_most : sum_by (granted m.within.statement.sales) (figures m).brackets ≤ 4400000000000000
   sum_most =
       let v = month_valid m in
-      let s = m.statement.sales in
+      let s = m.within.statement.sales in
       omega (arith, v.counted.few_brackets, sum_by-le (granted s) 1100000000000000 (figures m).brackets (All-weaker BracketWithin (λ b. granted s b ≤ 1100000000000000) (λ b h. granted_most s b v.within.rate_most v.within.metering_most h) (figures m).brackets v.within.brackets))
 
 -- a bracket of 0 percent adds nothing, so that it may be passed over

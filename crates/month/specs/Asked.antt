@@ -1,5 +1,6 @@
 -- What is asked of a month's figures, in order.
-use Rattle.std.specs.Prelude.{ℕ, ◌+◌, ◌*◌, Bool, true, ◌&&◌, List, [], ◌∷◌, ◌++◌, nat_le, nat_lt}
+use Rattle.std.specs.Prelude.{ℕ, ◌+◌, ◌*◌, Bool, ◌&&◌, List, [], ◌∷◌, ◌++◌, nat_le, nat_lt}
+use Rattle.std.specs.List.{list_all}
 use Rattle.month.specs.declared.fault.MonthFault.{MonthFault}
 use Rattle.month.specs.declared.fault.MonthFault.TheVariants.{OutsideLimit, PassedOnAboveTaken, CostsTooHigh, CostBelowZero, EnergyInconsistent, SalesInconsistent}
 use Rattle.month.specs.declared.parts.Source.{Source}
@@ -7,12 +8,9 @@ use Rattle.month.specs.declared.parts.Energy.{Energy}
 use Rattle.month.specs.declared.parts.Exempt.{Exempt}
 use Rattle.month.specs.declared.parts.Bracket.{Bracket}
 use Rattle.month.specs.declared.parts.Sales.{Sales}
+use Rattle.month.specs.declared.tag.Tag.TheVariants as tag
 use Rattle.month.specs.Amounts.{all_bought, gross, credits, sold}
 use Rattle.month.specs.Figures.{Figures}
-
-abbrev pub every : {X : Type 0} → (X → Bool) → List X → Bool
-every p [] = true
-every p (x ∷ xs) = p x && every p xs
 
 abbrev pub centavos_within : ℕ → Bool
 centavos_within n = nat_le n 5000000000
@@ -41,13 +39,13 @@ sales_within s = kwh_within s.nonlifeline && million_within s.rate && million_wi
 -- question 6, tag by tag: is each number within its limit?
 abbrev pub limits_asked : Figures → List (Bool × MonthFault)
 limits_asked f =
-    (nat_le 1 f.month && nat_le f.month 36, OutsideLimit 1)
-    ∷ (every source_within f.sources, OutsideLimit 2)
-    ∷ (centavos_within f.pilferage, OutsideLimit 3)
-    ∷ (source_within f.transmission, OutsideLimit 4)
-    ∷ (energy_within f.energy && exempt_within f.exempt, OutsideLimit 5)
-    ∷ (every bracket_within f.brackets, OutsideLimit 6)
-    ∷ (sales_within f.sales, OutsideLimit 7)
+    (nat_le 1 f.month && nat_le f.month 36, OutsideLimit tag.Month)
+    ∷ (list_all source_within f.sources, OutsideLimit tag.Sources)
+    ∷ (centavos_within f.pilferage, OutsideLimit tag.Pilferage)
+    ∷ (source_within f.transmission, OutsideLimit tag.Transmission)
+    ∷ (energy_within f.energy && exempt_within f.exempt, OutsideLimit tag.Energy)
+    ∷ (list_all bracket_within f.brackets, OutsideLimit tag.Brackets)
+    ∷ (sales_within f.sales, OutsideLimit tag.Sales)
     ∷ []
 
 abbrev pub passed_on_within : Source → Bool
@@ -70,13 +68,13 @@ sales_fit f =
 -- questions 7 to 11
 abbrev pub rules_asked : Figures → List (Bool × MonthFault)
 rules_asked f =
-    (every passed_on_within f.sources, PassedOnAboveTaken 2)
-    ∷ (passed_on_within f.transmission, PassedOnAboveTaken 4)
-    ∷ (centavos_within (all_bought f).cost, CostsTooHigh 2)
-    ∷ (nat_le (credits (all_bought f) f.pilferage) (gross (all_bought f)), CostBelowZero 2)
-    ∷ (nat_le (credits f.transmission 0) (gross f.transmission), CostBelowZero 4)
-    ∷ (energy_fits f, EnergyInconsistent 5)
-    ∷ (sales_fit f, SalesInconsistent 7)
+    (list_all passed_on_within f.sources, PassedOnAboveTaken tag.Sources)
+    ∷ (passed_on_within f.transmission, PassedOnAboveTaken tag.Transmission)
+    ∷ (centavos_within (all_bought f).cost, CostsTooHigh tag.Sources)
+    ∷ (nat_le (credits (all_bought f) f.pilferage) (gross (all_bought f)), CostBelowZero tag.Sources)
+    ∷ (nat_le (credits f.transmission 0) (gross f.transmission), CostBelowZero tag.Transmission)
+    ∷ (energy_fits f, EnergyInconsistent tag.Energy)
+    ∷ (sales_fit f, SalesInconsistent tag.Sales)
     ∷ []
 
 -- questions 6 to 11

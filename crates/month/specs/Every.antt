@@ -1,28 +1,14 @@
--- What is asked of each element of a list.
-use Rattle.std.specs.Prelude.{◌≡◌, ℕ, ◌+◌, ◌<◌, ◌≤◌, Bool, true, false, ◌&&◌, List, [], ◌∷◌, length, drop, slice_index_or, refl, All}
-use Rattle.std.proofs.Common.{sym, ap, ◌∙◌}
-use Rattle.std.proofs.lemmas.List.{at_drop_more, at_drop_all}
+-- A test of each element of a list, and the fact that it tells.
+use Rattle.std.specs.Prelude.{◌≡◌, Bool, true, List, [], ◌∷◌, refl, All}
+use Rattle.std.specs.List.{list_all}
 use Rattle.std.proofs.lemmas.List.Elements.{All-nil, All-cons, All-head, All-tail}
-use Rattle.std.proofs.lemmas.Bool.{and_parts, and_from, and_left}
-use Rattle.month.specs.Asked.{every}
+use Rattle.std.proofs.lemmas.Bool.{and_parts, and_from}
 
--- a loop: of the first i elements the answer is yes
-module _ {X : Type 0} (p : X → Bool) (xs : List X) (i : ℕ) (so_far : every p xs ≡ every p (drop i xs)) where
-  pub every_more : (x : X) → i < length xs → p (slice_index_or xs i x) ≡ true → every p xs ≡ every p (drop (i + 1) xs)
-  every_more x h is_yes = so_far ∙ at_drop_more (every p) xs i x h ∙ ap (λ b. b && every p (drop (i + 1) xs)) is_yes
-
-  pub every_stop : (x : X) → i < length xs → p (slice_index_or xs i x) ≡ false → false ≡ every p xs
-  every_stop x h is_no = sym (so_far ∙ at_drop_more (every p) xs i x h ∙ and_left _ _ is_no)
-
-  pub every_end : length xs ≤ i → true ≡ every p xs
-  every_end h = sym (so_far ∙ at_drop_all (every p) xs i h)
-
--- a test of each element, and the fact that it tells
 module _ {X : Type 0} (p : X → Bool) (P : X → Type 0) where
-  pub all_from_every : ((x : X) → p x ≡ true → P x) → (xs : List X) → every p xs ≡ true → All P xs
+  pub all_from_every : ((x : X) → p x ≡ true → P x) → (xs : List X) → list_all p xs ≡ true → All P xs
   all_from_every tells [] e = All-nil P
-  all_from_every tells (x ∷ xs) e = let parts = and_parts (p x) (every p xs) e in All-cons P x xs (tells x parts.0) (all_from_every tells xs parts.1)
+  all_from_every tells (x ∷ xs) e = let parts = and_parts (p x) (list_all p xs) e in All-cons P x xs (tells x parts.0) (all_from_every tells xs parts.1)
 
-  pub every_from_all : ((x : X) → P x → p x ≡ true) → (xs : List X) → All P xs → every p xs ≡ true
+  pub every_from_all : ((x : X) → P x → p x ≡ true) → (xs : List X) → All P xs → list_all p xs ≡ true
   every_from_all tests [] a = refl
-  every_from_all tests (x ∷ xs) a = and_from (p x) (every p xs) (tests x (All-head P x xs a)) (every_from_all tests xs (All-tail P x xs a))
+  every_from_all tests (x ∷ xs) a = and_from (p x) (list_all p xs) (tests x (All-head P x xs a)) (every_from_all tests xs (All-tail P x xs a))

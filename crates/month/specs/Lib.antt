@@ -7,6 +7,7 @@ pub mod Figures
 pub mod Making
 pub mod Refusals
 pub mod Stated
+pub mod Tags
 pub mod Valid
 pub mod Validity
 pub mod View

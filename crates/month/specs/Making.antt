@@ -11,7 +11,7 @@ use Rattle.month.specs.Valid.{Valid}
 -- the statement is valid, and the month keeps it as it is
 pub record Made (s : Statement) (m : Month) : Type 0 where
   pub valid : Valid (stated s)
-  pub same : m.statement ≡ s
+  pub same : m.within.statement ≡ s
 
 -- the first of the questions 6 to 11 that is answered no
 pub record NotMade (s : Statement) (e : MonthFault) : Type 0 where

@@ -14,6 +14,7 @@ use Rattle.month.specs.declared.month.Month.{Month}
 use Rattle.month.specs.declared.parts.Source.{Source}
 use Rattle.month.specs.declared.parts.Bracket.{Bracket}
 use Rattle.month.specs.declared.statement.Statement.{Statement}
+use Rattle.month.specs.declared.within.WithinLimits.{WithinLimits}
 use Rattle.month.specs.Amounts.{cost_of, taken_of, passed_of, kwh_of, sold}
 use Rattle.month.specs.Asked.{centavos_within, kwh_within, million_within, source_within, energy_within, exempt_within, bracket_within, passed_on_within, limits_asked, rules_asked, month_asked}
 use Rattle.month.specs.Bounds.{Bounded}
@@ -181,16 +182,22 @@ sum_passed f v = sum_by_mono passed_of taken_of f.sources v.sources_passed
 pub counted : (s : Statement) → Counted (stated s)
 counted s = record { some_source = s.some_source; few_sources = held_most s.sources; few_brackets = held_most s.brackets }
 
-none_from : {F : Type 0} (o : Option F) → is_some o ≡ false → o ≡ None
+pub none_from : {F : Type 0} (o : Option F) → is_some o ≡ false → o ≡ None
 none_from None e = refl
 none_from (Some x) e = absurd (grind arith)
 
+pub within_bounded : (w : WithinLimits) → Bounded (stated w.statement)
+within_bounded w = bounded_from_yes (stated w.statement) (counted w.statement) (none_from _ w.limits)
+
+pub within_valid : (w : WithinLimits) → first_no (rules_asked (stated w.statement)) ≡ None → Valid (stated w.statement)
+within_valid w rules = valid_from_yes (stated w.statement) (counted w.statement) (none_from _ w.limits) rules
+
 -- a month that exists is valid
 pub month_valid : (m : Month) → Valid (figures m)
-month_valid m = valid_from_yes (figures m) (counted m.statement) (none_from _ m.limits) (none_from _ m.rules)
+month_valid m = within_valid m.within (none_from _ m.rules)
 
 pub month_bounded : (m : Month) → Bounded (figures m)
-month_bounded m = let v = month_valid m in bounded (figures m) v.counted v.within
+month_bounded m = within_bounded m.within
 
 -- a month's energy is such that 36 of it still add up
 pub energy_small : (m : Month) → energy_size (figures m).energy ≤ greatest_of_36

@@ -4,4 +4,4 @@ use Rattle.month.specs.Figures.{Figures}
 use Rattle.month.specs.Stated.{stated}
 
 abbrev pub figures : Month → Figures
-figures m = stated m.statement
+figures m = stated m.within.statement

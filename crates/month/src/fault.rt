@@ -5,6 +5,7 @@ ghost use Rattle.month.specs.Words.{file_sentence, month_sentence, limit_words, 
 ghost use Rattle.month.specs.declared.fault.FileFault.TheVariants.{Field};
 ghost use Rattle.month.specs.declared.fault.MonthFault.TheVariants.{File};
 
+use crate::tag::Tag;
 use fields::{FieldFault, Layer, Refusal};
 use std::fmt;
 
@@ -22,25 +23,25 @@ pub enum MonthFault {
     // The bytes are no month file.
     File(FileFault),
     // A number is outside its limit.
-    OutsideLimit(u8),
+    OutsideLimit(Tag),
     // A discount passed on is above the discount taken.
-    PassedOnAboveTaken(u8),
+    PassedOnAboveTaken(Tag),
     // The source costs sum to more than a single cost may be.
-    CostsTooHigh(u8),
+    CostsTooHigh(Tag),
     // The cost to recover is below zero.
-    CostBelowZero(u8),
+    CostBelowZero(Tag),
     // More than half the input is lost, or none of it is charged generation, or transmission.
-    EnergyInconsistent(u8),
+    EnergyInconsistent(Tag),
     // Nothing is sold at the full rate, or more is sold than the input that is charged.
-    SalesInconsistent(u8),
+    SalesInconsistent(Tag),
 }
 
-impl FileFault {
-    pub fn refusal(&self) -> Refusal
-        ensures { result ≡ file_refusal self.now }
-    {
-        match *self {
-            FileFault::Field(fault) => fault.refusal(),
+impl From<FileFault> for Refusal {
+    ghost from_gives = { λ e r. r ≡ file_refusal e };
+
+    fn from(fault: FileFault) -> Refusal {
+        match fault {
+            FileFault::Field(fault) => Refusal::from(fault),
             FileFault::GoesOn(place) => Refusal {
                 number: 5,
                 layer: Layer::File,
@@ -50,12 +51,12 @@ impl FileFault {
     }
 }
 
-impl MonthFault {
-    pub fn refusal(&self) -> Refusal
-        ensures { result ≡ month_refusal self.now }
-    {
-        let (number, tag) = match *self {
-            MonthFault::File(fault) => return fault.refusal(),
+impl From<MonthFault> for Refusal {
+    ghost from_gives = { λ e r. r ≡ month_refusal e };
+
+    fn from(fault: MonthFault) -> Refusal {
+        let (number, tag) = match fault {
+            MonthFault::File(fault) => return Refusal::from(fault),
             MonthFault::OutsideLimit(tag) => (6, tag),
             MonthFault::PassedOnAboveTaken(tag) => (7, tag),
             MonthFault::CostsTooHigh(tag) => (8, tag),
@@ -66,7 +67,7 @@ impl MonthFault {
         Refusal {
             number,
             layer: Layer::Month,
-            place: usize::from(tag),
+            place: usize::from(u8::from(tag)),
         }
     }
 }
@@ -88,30 +89,25 @@ impl From<FileFault> for MonthFault {
 }
 
 // The limits of the numbers in a field.
-fn limits_of(tag: u8) -> &'static str
+fn limits_of(tag: Tag) -> &'static str
     ensures { result.now ≡ limit_words tag }
 {
-    if tag == 1 {
-        "the month is 1 to 36"
-    } else if tag == 5 {
-        "energy goes up to 10000000 kWh"
-    } else if tag == 6 {
-        "a bracket has up to 10000000 kWh, 1000000 customers and 100 percent"
-    } else if tag == 7 {
-        "N goes up to 10000000 kWh, R and M go up to 1000000 units"
-    } else {
-        "amounts go up to 5000000000 centavos"
+    match tag {
+        Tag::Month => "the month is 1 to 36",
+        Tag::Energy => "energy goes up to 10000000 kWh",
+        Tag::Brackets => "a bracket has up to 10000000 kWh, 1000000 customers and 100 percent",
+        Tag::Sales => "N goes up to 10000000 kWh, R and M go up to 1000000 units",
+        Tag::Sources | Tag::Pilferage | Tag::Transmission => "amounts go up to 5000000000 centavos",
     }
 }
 
 // The cost that is recovered by a field.
-fn cost_of(tag: u8) -> &'static str
+fn cost_of(tag: Tag) -> &'static str
     ensures { result.now ≡ cost_words tag }
 {
-    if tag == 2 {
-        "The cost of generation G"
-    } else {
-        "The cost of transmission T"
+    match tag {
+        Tag::Sources => "The cost of generation G",
+        _ => "The cost of transmission T",
     }
 }
 

@@ -3,14 +3,14 @@
 
 mod energy;
 mod fault;
-mod limits;
 mod month;
 mod parts;
-mod rules;
 mod statement;
-mod sums;
+mod tag;
+mod within;
 
 pub use fault::{FileFault, MonthFault};
 pub use month::Month;
 pub use parts::{Bracket, Energy, Exempt, Sales, Source};
 pub use statement::Statement;
+pub use tag::Tag;

@@ -4,6 +4,7 @@ ghost use Rattle.month.specs.Amounts.{generation_cost, generation_formula, trans
 ghost use Rattle.month.specs.View.{figures};
 
 use super::Month;
+use crate::statement::Statement;
 
 impl Month {
     // G, the cost of generation to recover.
@@ -12,8 +13,8 @@ impl Month {
         ensures formula { pos result ≡ generation_formula (figures self.now) }
         ensures most { result ≤ 500000000000 }
     {
-        let bought = self.statement.bought();
-        bought.gross() - bought.credits(self.statement.pilferage)
+        let bought = self.within.bought();
+        bought.gross() - bought.credits(self.within.statement.pilferage)
     }
 
     // T, the cost of transmission to recover.
@@ -22,7 +23,7 @@ impl Month {
         ensures formula { pos result ≡ transmission_formula (figures self.now) }
         ensures most { result ≤ 500000000000 }
     {
-        let transmission = self.statement.transmission;
+        let transmission = self.within.statement.transmission;
         transmission.gross() - transmission.credits(0)
     }
 
@@ -32,7 +33,7 @@ impl Month {
         ensures least { 1 ≤ result }
         ensures most { result ≤ 10000000 }
     {
-        self.statement.sold()
+        self.within.sold()
     }
 
     // D, the lifeline discount. A bracket of 0 percent is passed over.
@@ -41,11 +42,15 @@ impl Month {
         ensures formula { result ≡ discount_formula (figures self.now) }
         ensures most { result ≤ 44000000000000 }
     {
-        let sales = self.statement.sales;
+        let Statement {
+            sales,
+            brackets,
+            ..
+        } = &self.within.statement;
         let mut total = 0;
-        for bracket in self.statement.brackets.as_slice() {
+        for bracket in brackets.as_slice() {
             if bracket.percent > 0 {
-                let share = bracket.hundredfold(sales);
+                let share = bracket.hundredfold(*sales);
                 total += share;
             }
         }

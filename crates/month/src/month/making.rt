@@ -7,7 +7,7 @@ ghost use Rattle.month.specs.Valid.{Valid};
 use super::Month;
 use crate::fault::MonthFault;
 use crate::statement::Statement;
-use fields::first_no;
+use crate::within::WithinLimits;
 
 impl Month {
     // The month of this statement, unless one of the questions 6 to 11 is answered no.
@@ -15,18 +15,16 @@ impl Month {
         ensures cases { MatchResult result (λ m. Made statement m) (λ e. NotMade statement e) }
         ensures valid { Valid (stated statement) → is_ok result ≡ true }
     {
-        let limits = statement.limits();
-        first_no(&limits)?;
-        let rules = statement.rules();
-        first_no(&rules)?;
-        Ok(Month { statement })
+        let within = WithinLimits::new(statement)?;
+        within.ask_rules()?;
+        Ok(Month { within })
     }
 
     // What the month states: its figures are valid.
     pub fn statement(&self) -> &Statement
-        ensures is { result.now ≡ self.now.statement }
+        ensures is { result.now ≡ self.now.within.statement }
         ensures valid { Valid (stated result.now) }
     {
-        &self.statement
+        &self.within.statement
     }
 }

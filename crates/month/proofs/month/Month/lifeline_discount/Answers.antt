@@ -20,13 +20,13 @@ overflow_add-total c =
     let xs = c.as_slice-bracket-items.result.now in
     let i = c.loop-bracket.bracket-index in
     let is = c.as_slice-bracket-items.ensures.value in
-    let s = running (granted m.statement.sales) xs _ i none is c.loop-bracket-test.true in
+    let s = running (granted m.within.statement.sales) xs _ i none is c.loop-bracket-test.true in
     let b = bracket_bounded m xs i none is c.loop-bracket-test.true in
     omega (arith, sum_most m, c.hundredfold-share.ensures)
 
 pub loop-bracket-preserved : goal.loop-bracket-preserved
 loop-bracket-preserved c =
-    let sales = c.args.self.now.statement.sales in
+    let sales = c.args.self.now.within.statement.sales in
     let xs = c.as_slice-bracket-items.result.now in
     let i = c.loop-bracket.bracket-index in
     let b = get_or xs i none in
@@ -39,6 +39,6 @@ loop-bracket-preserved c =
 pub returns : goal.returns
 returns c =
     let m = c.args.self.now in
-    let e = ended (granted m.statement.sales) _ _ c.loop-bracket.bracket-index c.as_slice-bracket-items.ensures.value c.loop-bracket-test.false in
+    let e = ended (granted m.within.statement.sales) _ _ c.loop-bracket.bracket-index c.as_slice-bracket-items.ensures.value c.loop-bracket-test.false in
     let is : c.loop-bracket.total / 100 ≡ discount (figures m) = omega arith in
     record { is = is; formula = is ∙ discount_is (figures m); most = omega (arith, sum_most m) }

@@ -1,38 +1,32 @@
-use Rattle.std.proofs.Common.{◌≡◌, None, sym, refl, ap, ◌∙◌, MatchResult}
+use Rattle.std.proofs.Common.{◌≡◌, None, refl, ap, sym, ◌∙◌, subst, MatchResult}
 use Rattle.std.proofs.lemmas.Result.{err_from_is_err_and}
 use Rattle.fields.specs.Questions.{first_no}
-use Rattle.fields.proofs.Asked.{answered_ok, answered_err, first_no_after, first_no_stop}
+use Rattle.fields.proofs.Asked.{first_no_after, first_no_stop}
 use Rattle.month.specs.Asked.{limits_asked, rules_asked}
 use Rattle.month.specs.Making.{Made, NotMade}
 use Rattle.month.specs.Stated.{stated}
-use Rattle.month.specs.Validity.{counted, bounded_from_yes, valid_from_yes, valid_made}
+use Rattle.month.specs.Valid.{Valid}
+use Rattle.month.specs.Validity.{within_valid, none_from, valid_made}
 use Rattle.month.proofs.month.Month.new.Goals as goal
 
-pub rules-rules-requires : goal.rules-rules-requires
-rules-rules-requires c = bounded_from_yes (stated c.args.statement) (counted c.args.statement) (ap first_no (sym c.limits-limits.ensures) ∙ answered_ok _ c.in_ok-first_no.ensures)
-
-pub returns-in_err-first_no : goal.returns-in_err-first_no
-returns-in_err-first_no c =
+pub returns-in_err-within : goal.returns-in_err-within
+returns-in_err-within c =
     let s = c.args.statement in
     let r = c.from_residual.result in
     let p = err_from_is_err_and r c.from_residual.ensures.1 in
-    let is = ap first_no (sym c.limits-limits.ensures) ∙ answered_err _ c.in_err-first_no.ensures in
-    let cases : MatchResult r (λ m. Made s m) (λ e. NotMade s e) = rw (p.1, p.2) (record { first = first_no_stop (limits_asked (stated s)) (rules_asked (stated s)) _ is }) in
+    let cases : MatchResult r (λ m. Made s m) (λ e. NotMade s e) = rw (p.1, p.2) (record { first = first_no_stop (limits_asked (stated s)) (rules_asked (stated s)) _ c.in_err-within.ensures }) in
     record { cases = cases; valid = valid_made s r cases }
 
-pub returns-in_err-first_no-2 : goal.returns-in_err-first_no-2
-returns-in_err-first_no-2 c =
+pub returns-in_err-ask_rules : goal.returns-in_err-ask_rules
+returns-in_err-ask_rules c =
     let s = c.args.statement in
-    let r = c.from_residual-in_err-first_no-2.result in
-    let p = err_from_is_err_and r c.from_residual-in_err-first_no-2.ensures.1 in
-    let limits = ap first_no (sym c.limits-limits.ensures) ∙ answered_ok _ c.in_ok-first_no.ensures in
-    let is = ap first_no (sym c.rules-rules.ensures) ∙ answered_err _ c.in_err-first_no-2.ensures in
+    let r = c.from_residual-in_err-ask_rules.result in
+    let p = err_from_is_err_and r c.from_residual-in_err-ask_rules.ensures.1 in
+    let w = c.in_ok-within.within in
+    let limits : first_no (limits_asked (stated s)) ≡ None = ap (λ t. first_no (limits_asked (stated t))) (sym c.in_ok-within.ensures) ∙ none_from _ w.limits in
+    let is = ap (λ t. first_no (rules_asked (stated t))) (sym c.in_ok-within.ensures) ∙ c.in_err-ask_rules.ensures in
     let cases : MatchResult r (λ m. Made s m) (λ e. NotMade s e) = rw (p.1, p.2) (record { first = first_no_after (limits_asked (stated s)) (rules_asked (stated s)) limits ∙ is }) in
     record { cases = cases; valid = valid_made s r cases }
 
-pub returns : goal.returns
-returns c =
-    let f = stated c.args.statement in
-    let limits : first_no (limits_asked f) ≡ None = ap first_no (sym c.limits-limits.ensures) ∙ answered_ok _ c.in_ok-first_no.ensures in
-    let rules : first_no (rules_asked f) ≡ None = ap first_no (sym c.rules-rules.ensures) ∙ answered_ok _ c.in_ok-first_no-2.ensures in
-    record { cases = record { valid = valid_from_yes f (counted c.args.statement) limits rules; same = refl }; valid = λ _. refl }
+pub returns-clause-cases : goal.returns-clause-cases
+returns-clause-cases c = record { valid = subst (λ t. Valid (stated t)) c.in_ok-within.ensures (within_valid c.in_ok-within.within c.in_ok-ask_rules.ensures); same = c.in_ok-within.ensures }

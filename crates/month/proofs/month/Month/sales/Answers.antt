@@ -1,9 +1,6 @@
 use Rattle.std.proofs.Common.{arith}
-use Rattle.month.specs.Validity.{month_valid, month_bounded}
+use Rattle.month.specs.Validity.{month_valid}
 use Rattle.month.proofs.month.Month.sales.Goals as goal
-
-pub sold-requires : goal.sold-requires
-sold-requires c = month_bounded c.args.self.now
 
 pub returns : goal.returns
 returns c =

@@ -1,6 +1,6 @@
 use Rattle.std.proofs.Common.{◌≡◌, take, sum_by}
 use Rattle.month.specs.Amounts.{cost_of, taken_of, passed_of}
-use Rattle.month.proofs.statement.Statement.bought.Given as goal
+use Rattle.month.proofs.within.WithinLimits.bought.Given as goal
 
 abbrev pub invariant-loop-source : goal.invariant-loop-source
 invariant-loop-source l =

@@ -1,11 +1,11 @@
-// What a statement's lists add up to, where no number is outside its limit.
+// What a statement's lists add up to.
 ghost use Rattle.std.specs.Prelude.{◌≡◌, ◌≤◌};
 ghost use Rattle.month.specs.Amounts.{all_bought, gross, credits, hundredfold, sold};
-ghost use Rattle.month.specs.Bounds.{Bounded, BoundedBracket};
+ghost use Rattle.month.specs.Bounds.{BoundedBracket};
 ghost use Rattle.month.specs.Stated.{stated};
 
+use super::WithinLimits;
 use crate::parts::{Bracket, Sales, Source};
-use crate::statement::Statement;
 
 // Units of a ten-thousandth of a peso in a centavo, and half of them.
 const UNITS: u64 = 100;
@@ -42,16 +42,15 @@ impl Bracket {
     }
 }
 
-impl Statement {
+impl WithinLimits {
     // All sources as one.
     pub(crate) fn bought(&self) -> Source
-        requires { Bounded (stated self.now) }
-        ensures { result ≡ all_bought (stated self.now) }
+        ensures { result ≡ all_bought (stated self.now.statement) }
     {
         let mut cost = 0;
         let mut taken = 0;
         let mut passed = 0;
-        for source in self.sources.as_slice() {
+        for source in self.statement.sources.as_slice() {
             cost += source.cost;
             taken += source.taken;
             passed += source.passed;
@@ -65,11 +64,10 @@ impl Statement {
 
     // All kWh sold.
     pub(crate) fn sold(&self) -> u64
-        requires { Bounded (stated self.now) }
-        ensures { result ≡ sold (stated self.now) }
+        ensures { result ≡ sold (stated self.now.statement) }
     {
-        let mut kwh = self.sales.nonlifeline;
-        for bracket in self.brackets.as_slice() {
+        let mut kwh = self.statement.sales.nonlifeline;
+        for bracket in self.statement.brackets.as_slice() {
             kwh += bracket.kwh;
         }
         kwh

@@ -1,8 +1,9 @@
 use Rattle.std.proofs.Common.{◌∙◌, arith}
 use Rattle.month.specs.Amounts.{cost_of, taken_of, passed_of}
 use Rattle.month.specs.declared.parts.Source.{Source}
+use Rattle.month.specs.Validity.{within_bounded}
 use Rattle.month.proofs.Running.{running, ended}
-use Rattle.month.proofs.statement.Statement.bought.Goals as goal
+use Rattle.month.proofs.within.WithinLimits.bought.Goals as goal
 
 abbrev none : Source
 none = record { cost = 0; taken = 0; passed = 0 }
@@ -10,17 +11,17 @@ none = record { cost = 0; taken = 0; passed = 0 }
 pub overflow_add-cost : goal.overflow_add-cost
 overflow_add-cost c =
     let s = running cost_of c.as_slice-source-items.result.now _ c.loop-source.source-index none c.as_slice-source-items.ensures.value c.loop-source-test.true in
-    omega (arith, c.requires.costs)
+    omega (arith, (within_bounded c.args.self.now).costs)
 
 pub overflow_add-taken : goal.overflow_add-taken
 overflow_add-taken c =
     let s = running taken_of c.as_slice-source-items.result.now _ c.loop-source.source-index none c.as_slice-source-items.ensures.value c.loop-source-test.true in
-    omega (arith, c.requires.taken)
+    omega (arith, (within_bounded c.args.self.now).taken)
 
 pub overflow_add-passed : goal.overflow_add-passed
 overflow_add-passed c =
     let s = running passed_of c.as_slice-source-items.result.now _ c.loop-source.source-index none c.as_slice-source-items.ensures.value c.loop-source-test.true in
-    omega (arith, c.requires.passed)
+    omega (arith, (within_bounded c.args.self.now).passed)
 
 pub loop-source-preserved : goal.loop-source-preserved
 loop-source-preserved c =
