@@ -12,38 +12,43 @@ fn numbers_of(heap: Global, text: &str) -> anyhow::Result<Vec<u64>> {
     Ok(numbers)
 }
 
-fn sources_of(numbers: &[u64]) -> anyhow::Result<UpTo<Source, 8>> {
-    let mut sources = UpTo::new();
+// A list whose entries have three numbers each, and what is said where one has not, or where there is no room.
+fn list_of<T: Copy + Default, const N: usize, F: Fn(u64, u64, u64) -> T>(
+    numbers: &[u64],
+    entry: F,
+    not_three: &'static str,
+    too_many: &'static str,
+) -> anyhow::Result<UpTo<T, N>>
+    requires { F.IsAlwaysCallable entry }
+{
+    let mut list = UpTo::new();
     for three in numbers.chunks(3) {
-        let [cost, taken, passed] = *three else {
-            return Err(anyhow!("a source has three numbers"));
+        let [first, second, third] = *three else {
+            return Err(anyhow!(not_three));
         };
-        let Ok(()) = sources.push(Source {
-            cost,
-            taken,
-            passed,
-        }) else {
-            return Err(anyhow!("more than eight sources"));
+        let Ok(()) = list.push(entry(first, second, third)) else {
+            return Err(anyhow!(too_many));
         };
     }
-    Ok(sources)
+    Ok(list)
+}
+
+fn sources_of(numbers: &[u64]) -> anyhow::Result<UpTo<Source, 8>> {
+    let source = |cost, taken, passed| Source {
+        cost,
+        taken,
+        passed,
+    };
+    list_of(numbers, source, "a source has three numbers", "more than eight sources")
 }
 
 fn brackets_of(numbers: &[u64]) -> anyhow::Result<UpTo<Bracket, 4>> {
-    let mut brackets = UpTo::new();
-    for three in numbers.chunks(3) {
-        let [kwh, customers, percent] = *three else {
-            return Err(anyhow!("a bracket has three numbers"));
-        };
-        let Ok(()) = brackets.push(Bracket {
-            kwh,
-            customers,
-            percent,
-        }) else {
-            return Err(anyhow!("more than four brackets"));
-        };
-    }
-    Ok(brackets)
+    let bracket = |kwh, customers, percent| Bracket {
+        kwh,
+        customers,
+        percent,
+    };
+    list_of(numbers, bracket, "a bracket has three numbers", "more than four brackets")
 }
 
 pub(crate) fn statement_of(heap: Global, line: &str) -> anyhow::Result<Statement> {

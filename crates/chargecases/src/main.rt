@@ -9,6 +9,7 @@ mod tests;
 use crate::answers::answers_of;
 use crate::figures::statement_of;
 use anyhow::anyhow;
+use fields::Refusal;
 use month::Month;
 use schedule::FourCharges;
 use std::io::{BufRead, BufReader};
@@ -29,7 +30,7 @@ impl Row {
                 self.months.clear();
                 println!(rt; "cap {cap}")?;
             }
-            Err(fault) => rt.println(fault.refusal())?,
+            Err(fault) => rt.println(Refusal::from(fault))?,
         }
         Ok(())
     }
@@ -41,7 +42,7 @@ impl Row {
                 self.months.push(month)?;
                 rt.println(answers_of(rt.alloc(), &self.charges, self.months.as_slice())?)?;
             }
-            Err(fault) => rt.println(fault.refusal())?,
+            Err(fault) => rt.println(Refusal::from(fault))?,
         }
         Ok(())
     }

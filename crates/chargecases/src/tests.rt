@@ -196,8 +196,7 @@ fn lifeline_at_its_limit(rt: HostRuntime) -> Result<(), Fail> {
 // Month k has 1,000 + k kWh of input, of which k and 2 k are lost.
 fn months_of_differing_energy() -> Result<[Month; 36], Fail> {
     let mut months = [priced(1, 1).month()?; 36];
-    for i in 0..36 {
-        let k = i as u64 + 1;
+    for (month, k) in months.iter_mut().zip(1..=36) {
         let sketch = Sketch {
             energy: Energy {
                 input: 1_000 + k,
@@ -206,7 +205,7 @@ fn months_of_differing_energy() -> Result<[Month; 36], Fail> {
             },
             ..priced(1, 1)
         };
-        months[i] = sketch.month()?;
+        *month = sketch.month()?;
     }
     Ok(months)
 }
@@ -222,8 +221,7 @@ fn windows_of_twelve_months(rt: HostRuntime) -> Result<(), Fail> {
         (13, 12_090, 90),
         (36, 12_366, 366),
     ];
-    for row in &rows {
-        let (standing, input, substation) = *row;
+    for (standing, input, substation) in rows {
         assert!(rt; standing <= 36);
         let total = recent_energy(&months[0..standing]);
         assert_eq!(rt; total.input, input);
@@ -239,12 +237,11 @@ fn assessments_of_differing_allowance() -> Result<[Assessment; 36], Fail> {
         return Err(Fail::new("no answer of a mechanism"));
     };
     let mut assessments = [first; 36];
-    for i in 0..36 {
-        let k = i as u64 + 1;
-        let Some(assessment) = Assessment::new(10, (k, 10 * k + 3)) else {
+    for (assessment, k) in assessments.iter_mut().zip(1..=36) {
+        let Some(answered) = Assessment::new(10, (k, 10 * k + 3)) else {
             return Err(Fail::new("no answer of a mechanism"));
         };
-        assessments[i] = assessment;
+        *assessment = answered;
     }
     Ok(assessments)
 }
@@ -260,8 +257,7 @@ fn windows_of_three_months(rt: HostRuntime) -> Result<(), Fail> {
         (13, 369),
         (36, 1_059),
     ];
-    for row in &rows {
-        let (standing, total) = *row;
+    for (standing, total) in rows {
         assert!(rt; standing <= 36);
         assert_eq!(rt; recent_allowances(&assessments[0..standing]), total);
     }
@@ -397,6 +393,6 @@ fn cap_at_its_limit(rt: HostRuntime) -> Result<(), Fail> {
         layer: Layer::Book,
         place: 1,
     };
-    assert!(rt; fault.refusal() == told);
+    assert!(rt; Refusal::from(fault) == told);
     Ok(())
 }

@@ -3,11 +3,9 @@ use Rattle.std.proofs.Common.{◌≡◌, ℕ, ◌+◌, ◌-◌, ◌*◌, ◌/◌
 use native.Mathlib.Nat.{sub-zero}
 use Rattle.std.proofs.lemmas.Nat.{div-mul-add, mod-mul-add}
 use Rattle.std.proofs.lemmas.List.{take_rest, drop-drop, drop_more, get_or-drop, length-take-le}
-use Rattle.std.proofs.lemmas.Bool.{le-leb, lt-leb, eq-eqb, ne_eqb}
-use Rattle.fields.specs.declared.fault.FieldFault.TheVariants.{WrongTag, WrongLength, CutShort}
+use Rattle.std.proofs.lemmas.Bool.{le-leb, eq-eqb}
 use Rattle.fields.specs.declared.due.Due.{Due}
-use Rattle.fields.specs.Heads.{field_asked, size_at, may, next_offset, Took}
-use Rattle.fields.specs.Questions.{first_no}
+use Rattle.fields.specs.Heads.{size_at, may, next_offset, Took}
 use Rattle.fields.proofs.Lengths.{parts_from_may}
 
 -- `&bytes[p..]`, as the checker reads it
@@ -42,20 +40,9 @@ module _ (bs : List ℕ) (p : ℕ) (d : Due) (whole : 3 ≤ length (rest_at bs p
   tag_is : get_or (rest_at bs p) 0 0 ≡ get_or bs p 0
   tag_is = rest_get_or bs p 0 ∙ ap (λ i. get_or bs i 0) (add-zero p)
 
-  pub wrong_tag : (get_or (rest_at bs p) 0 0 ≡ d.tag → ⊥) → first_no (field_asked bs p d) ≡ Some (WrongTag p)
-  wrong_tag ne = rw (le-leb _ _ head_within, ne_eqb _ _ (λ e. ne (tag_is ∙ e)))
-
   module _ (n : ℕ) (is : get_or (rest_at bs p) 0 0 ≡ d.tag) (stated : n ≡ get_or (rest_at bs p) 1 0 * 256 + get_or (rest_at bs p) 2 0) where
     size_is : size_at bs p ≡ n
     size_is = omega (arith, rest_get_or bs p 1, rest_get_or bs p 2)
-
-    pub wrong_length : may d n ≡ false → first_no (field_asked bs p d) ≡ Some (WrongLength p)
-    wrong_length no_way = rw (le-leb _ _ head_within, eq-eqb _ _ (sym tag_is ∙ is), ap (may d) size_is, no_way)
-
-    pub cut_short : may d n ≡ true → length (past_head bs p) < n → first_no (field_asked bs p d) ≡ Some (CutShort p)
-    cut_short way less =
-        let short : length bs < p + 3 + n = omega (arith, ap length (past_is bs p) ∙ length-drop (p + 3) bs) in
-        rw (le-leb _ _ head_within, eq-eqb _ _ (sym tag_is ∙ is), size_is, way, lt-leb _ _ short)
 
     module _ (low : get_or (rest_at bs p) 2 0 < 256) (way : may d n ≡ true) (fits : n ≤ length (past_head bs p)) where
       pub in_file : p + 3 + n ≤ length bs

@@ -1,8 +1,8 @@
 -- Rows of numbers, of items and of fields: how long they are, how they are cut, and that their bytes tell them apart.
-use Rattle.std.proofs.Common.{◌≡◌, ℕ, ◌+◌, ◌*◌, ◌/◌, ◌%◌, ◌<◌, ◌≤◌, List, [], ◌∷◌, ◌++◌, length, take, drop, sym, refl, ap, ◌∙◌, append_assoc, append-nil, mul-suc, arith, length-append, take-append-drop}
+use Rattle.std.proofs.Common.{◌≡◌, ℕ, ◌+◌, ◌*◌, ◌/◌, ◌%◌, ◌<◌, List, [], ◌∷◌, ◌++◌, length, take, drop, sym, refl, ap, ◌∙◌, mul-suc, arith, length-append}
 use Rattle.std.specs.List.{flat_map}
 use Rattle.std.proofs.lemmas.Nat.{div-add-mod'}
-use Rattle.std.proofs.lemmas.List.{take_at, drop_at, drop-drop, drop_all, flat_map_more}
+use Rattle.std.proofs.lemmas.List.{take_at, drop_at}
 use Rattle.fields.specs.Bytes.{be, eights, fields_of}
 use Rattle.fields.proofs.Numerals.{length_be, be_same}
 
@@ -13,32 +13,6 @@ length_joined f w long (x ∷ xs) = omega (arith, length-append (f x) (flat_map 
 
 pub length_eights : (ns : List ℕ) → length (eights ns) ≡ 8 * length ns
 length_eights ns = length_joined (be 8) 8 (length_be 8) ns
-
-pub cut : (bs : List ℕ) (p w q : ℕ) → p + w ≡ q → drop p bs ≡ take w (drop p bs) ++ drop q bs
-cut bs p w q e = sym (take-append-drop w (drop p bs)) ∙ ap (λ l. take w (drop p bs) ++ l) (drop-drop w p bs ∙ ap (λ k. drop k bs) e)
-
--- from p on, bs is these numbers
-pub record From (bs : List ℕ) (p : ℕ) (ns : List ℕ) : Type 0 where
-  pub is : drop p bs ≡ eights ns
-
-module _ (bs : List ℕ) (p : ℕ) where
-  pub from_end : length bs ≤ p → From bs p []
-  from_end h = record { is = drop_all p bs h }
-
-  pub from_number : {n : ℕ} {ns : List ℕ} → take 8 (drop p bs) ≡ be 8 n → From bs (p + 8) ns → From bs p (n ∷ ns)
-  from_number is rest = let c = cut bs p 8 (p + 8) refl in let r = rest.is in record { is = cc }
-
--- one more item is read from bs, that stands in its w bytes at p
-module _ {X : Type 0} (bytes : X → List ℕ) (bs : List ℕ) where
-  pub joined_step : (xs ys : List X) (x : X) (p w q : ℕ) → take w (drop p bs) ≡ bytes x → ys ≡ xs ++ x ∷ [] → bs ≡ flat_map bytes xs ++ drop p bs → p + w ≡ q → bs ≡ flat_map bytes ys ++ drop q bs
-  joined_step xs ys x p w q is pushed so_far e =
-      let c = cut bs p w q e in
-      let more = flat_map_more bytes [] xs x in
-      let group = append_assoc (flat_map bytes xs) (bytes x) (drop q bs) in
-      cc
-
-  pub joined_all : (xs : List X) (p : ℕ) → length bs ≤ p → bs ≡ flat_map bytes xs ++ drop p bs → bs ≡ flat_map bytes xs
-  joined_all xs p h so_far = so_far ∙ ap (λ l. flat_map bytes xs ++ l) (drop_all p bs h) ∙ append-nil (flat_map bytes xs)
 
 -- two lists cut at one place
 cut_same : (a b c d : List ℕ) → length a ≡ length c → a ++ b ≡ c ++ d → (a ≡ c) × (b ≡ d)

@@ -1,5 +1,5 @@
 -- What follows from a month's figures.
-use Rattle.std.specs.Prelude.{ℕ, ◌+◌, ◌-◌, ◌*◌, ◌/◌, cond, ℤ, pos, ◌-ℤ◌, ◌*ℤ◌, sum_by, nat_lt}
+use Rattle.std.specs.Prelude.{ℕ, ◌+◌, ◌-◌, ◌*◌, ◌/◌, if◌then◌else◌, ℤ, pos, ◌-ℤ◌, ◌*ℤ◌, sum_by, nat_lt}
 use Rattle.month.specs.declared.parts.Source.{Source}
 use Rattle.month.specs.declared.parts.Bracket.{Bracket}
 use Rattle.month.specs.declared.parts.Sales.{Sales}
@@ -58,7 +58,7 @@ hundredfold s b = (b.kwh * s.rate + b.customers * s.metering) * b.percent
 
 -- the same, where a bracket of 0 percent is passed over
 abbrev pub granted : Sales → Bracket → ℕ
-granted s b = cond (nat_lt 0 b.percent) (hundredfold s b) 0
+granted s b = if nat_lt 0 b.percent then hundredfold s b else 0
 
 -- D as it is computed: one division, rounded down, of the whole sum
 abbrev pub discount : Figures → ℕ

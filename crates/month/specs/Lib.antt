@@ -8,6 +8,7 @@ pub mod Making
 pub mod Refusals
 pub mod Stated
 pub mod Tags
+pub mod UnitWords
 pub mod Valid
 pub mod Validity
 pub mod View

@@ -7,6 +7,7 @@ mod month;
 mod parts;
 mod statement;
 mod tag;
+mod units;
 mod within;
 
 pub use fault::{FileFault, MonthFault};
@@ -14,3 +15,4 @@ pub use month::Month;
 pub use parts::{Bracket, Energy, Exempt, Sales, Source};
 pub use statement::Statement;
 pub use tag::Tag;
+pub use units::Units;

@@ -1,4 +1,5 @@
 // What a file is read as, in one line.
+use fields::Refusal;
 use month::Month;
 use monthfile::{read_month, write_month};
 use std::alloc::{AllocError, Global};
@@ -8,7 +9,7 @@ fn accepted(heap: Global, month: &Month, file: &[u8]) -> Result<String, AllocErr
     let Ok(n) = write_month(month, &mut buffer) else {
         return String::from_str(heap, "accepted, and not written");
     };
-    if &buffer[0..n] != file {
+    if &buffer[..n] != file {
         return String::from_str(heap, "accepted, and written otherwise");
     }
     let number = month.statement().month;
@@ -24,6 +25,6 @@ fn accepted(heap: Global, month: &Month, file: &[u8]) -> Result<String, AllocErr
 pub(crate) fn outcome_of(heap: Global, file: &[u8]) -> Result<String, AllocError> {
     match read_month(file) {
         Ok(month) => accepted(heap, &month, file),
-        Err(fault) => fault.refusal().to_string(heap),
+        Err(fault) => Refusal::from(fault).to_string(heap),
     }
 }

@@ -3,9 +3,9 @@ use crate::outcome::outcome_of;
 
 pub(crate) fn print_prefixes(rt: &HostRuntime, name: &str, file: &[u8]) -> anyhow::Result<()> {
     let mut first = 0;
-    let mut run = outcome_of(rt.alloc(), &file[0..0])?;
-    for length in 1..file.len() + 1 {
-        let outcome = outcome_of(rt.alloc(), &file[0..length])?;
+    let mut run = outcome_of(rt.alloc(), b"")?;
+    for length in 1..=file.len() {
+        let outcome = outcome_of(rt.alloc(), &file[..length])?;
         if outcome.as_str() != run.as_str() {
             println!(rt; "{name} {first}-{} {run}", length - 1)?;
             first = length;

@@ -15,10 +15,7 @@ const SAMPLE: &[u8] = b"\
     \x07\x00\x18\x00\x00\x00\x00\x00\x01\x86\xa0\x00\x00\x00\x00\x00\x01\x38\x80\x00\x00\x00\x00\x00\x00\xc3\x50";
 
 fn refusal_of(file: &[u8]) -> Option<Refusal> {
-    match read_month(file) {
-        Ok(_) => None,
-        Err(fault) => Some(fault.refusal()),
-    }
+    read_month(file).err().map(Refusal::from)
 }
 
 #[test]
@@ -73,7 +70,7 @@ fn short_buffer(rt: HostRuntime) -> Result<(), Fail> {
         layer: Layer::Book,
         place: 1023,
     };
-    assert!(rt; fault.refusal() == told);
+    assert!(rt; Refusal::from(fault) == told);
     assert!(rt; &buffer[..] == &[7; 1023][..]);
     Ok(())
 }
@@ -104,7 +101,8 @@ fn field_by_field(rt: HostRuntime) -> Result<(), Fail> {
     let Err(fault) = reader.field(any) else {
         return Err(Fail::new("a field"));
     };
-    assert!(rt; fault.refusal().number == 1 && fault.refusal().place == 5);
+    let refusal = Refusal::from(fault);
+    assert!(rt; refusal.number == 1 && refusal.place == 5);
     assert!(rt; reader.next_offset() == Some(5));
     Ok(())
 }

@@ -4,32 +4,24 @@
 mod report;
 
 use crate::report::print_month;
+use fields::Refusal;
 use monthfile::read_month;
 use std::io::Read;
 use std::process::ExitCode;
 
-// Whether the file was accepted.
-fn check_input(rt: &HostRuntime) -> anyhow::Result<bool> {
+// Ends with status 1 where the file is refused, and where it cannot be read, which is then said on standard error.
+fn main(rt: HostRuntime) -> anyhow::Result<ExitCode> {
     let mut file = Vec::new(rt.alloc());
     rt.stdin().read_to_end(&mut file)?;
     match read_month(file.as_slice()) {
         Ok(month) => {
-            print_month(rt, &month)?;
-            Ok(true)
+            print_month(&rt, &month)?;
+            Ok(ExitCode::SUCCESS)
         }
         Err(fault) => {
-            rt.println(fault.refusal())?;
+            rt.println(Refusal::from(fault))?;
             rt.println(fault)?;
-            Ok(false)
+            Ok(ExitCode::FAILURE)
         }
-    }
-}
-
-// Ends with status 1 where the file is refused, and where it cannot be read, which is then said on standard error.
-fn main(rt: HostRuntime) -> anyhow::Result<ExitCode> {
-    if check_input(&rt)? {
-        Ok(ExitCode::SUCCESS)
-    } else {
-        Ok(ExitCode::FAILURE)
     }
 }

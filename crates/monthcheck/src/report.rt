@@ -1,5 +1,5 @@
 // What a month states, and what follows, a line for each.
-use month::{Month, Source, Statement};
+use month::{Month, Source, Statement, Units};
 use std::fmt::Display;
 use std::io;
 
@@ -23,11 +23,8 @@ fn print_kwh(rt: &impl Print, name: &str, kwh: u64) -> io::Result<()> {
     println!(rt; "{name}: {kwh} kWh")
 }
 
-// An amount in units of a ten-thousandth of a peso, told in pesos too.
 fn print_units(rt: &impl Print, name: &str, units: u64) -> io::Result<()> {
-    let pesos = units / 10_000;
-    let rest = units % 10_000;
-    println!(rt; "{name}: {units} units = {pesos}.{rest:04} pesos")
+    println!(rt; "{name}: {}", Units(units))
 }
 
 fn print_costs(rt: &impl Print, statement: &Statement) -> io::Result<()> {

@@ -1,7 +1,6 @@
--- A file states one month's figures: the values in it tell them, and no other figures have the same file.
-use Rattle.std.proofs.Common.{◌≡◌, ℕ, List, [], ◌∷◌, length, refl, ap, ◌∙◌, arith}
+-- A file states one month's figures: no other figures have the same file.
+use Rattle.std.proofs.Common.{◌≡◌, ℕ, List, [], ◌∷◌, length, refl, arith}
 use Rattle.std.specs.List.{flat_map}
-use Rattle.fields.specs.Bytes.{be, eights, fields_of}
 use Rattle.fields.proofs.Numerals.{be_same}
 use Rattle.fields.proofs.Rows.{joined_same, eights_same, fields_same}
 use Rattle.month.specs.declared.parts.Source.{Source}
@@ -11,16 +10,7 @@ use Rattle.month.specs.declared.parts.Bracket.{Bracket}
 use Rattle.month.specs.declared.parts.Sales.{Sales}
 use Rattle.month.specs.Figures.{Figures}
 use Rattle.monthfile.specs.Layout.{source_numbers, energy_numbers, bracket_numbers, sales_numbers, bytes_by, values, file_of}
-use Rattle.monthfile.specs.Values.{MadeOf}
 use Rattle.monthfile.proofs.Lengths.{length_entry}
-
--- the file of these figures, from its values
-pub whole_file :
-    {file m s p t e b l : List ℕ} → MadeOf file m s p t e b l → (f : Figures) → m ≡ be 2 f.month → s ≡ flat_map (bytes_by source_numbers) f.sources → p ≡ eights (f.pilferage ∷ []) → t ≡ bytes_by source_numbers f.transmission →
-    e ≡ eights (energy_numbers f.energy f.exempt) → b ≡ flat_map (bytes_by bracket_numbers) f.brackets → l ≡ bytes_by sales_numbers f.sales → file ≡ file_of f
-whole_file {m = m} {s = s} {p = p} {t = t} {e = e} {b = b} {l = l} made_of f em es ep et ee eb el =
-    let same : m ∷ s ∷ p ∷ t ∷ e ∷ b ∷ l ∷ [] ≡ values f = cc in
-    made_of.whole ∙ ap (fields_of 1) same
 
 source_same : (x y : Source) → source_numbers x ≡ source_numbers y → x ≡ y
 source_same x y n =

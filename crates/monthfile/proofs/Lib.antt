@@ -4,4 +4,3 @@ pub mod Lengths
 pub mod Progress
 pub mod Sound
 pub mod Worked
-pub mod WrittenBack

@@ -8,6 +8,7 @@ use Rattle.fields.specs.Questions.{first_no, carried}
 use Rattle.month.specs.declared.fault.FileFault.TheVariants.{Field, GoesOn}
 use Rattle.month.specs.declared.fault.MonthFault.{MonthFault}
 use Rattle.month.specs.declared.fault.MonthFault.TheVariants.{File, EnergyInconsistent}
+use Rattle.month.specs.declared.tag.Tag.TheVariants.{Energy}
 use Rattle.month.specs.Amounts.{generation_cost, transmission_cost, sold, discount}
 use Rattle.month.specs.Asked.{month_asked}
 use Rattle.month.specs.Figures.{Figures}
@@ -84,7 +85,7 @@ half_lost : first_no (month_asked (losing 50)) ≡ None
 unfolding losing
 half_lost = refl
 
-more_lost : first_no (month_asked (losing 51)) ≡ Some (EnergyInconsistent 5)
+more_lost : first_no (month_asked (losing 51)) ≡ Some (EnergyInconsistent Energy)
 unfolding losing
 more_lost = refl
 

@@ -1,28 +1,36 @@
-// Figures that stand in a value as three numbers of eight bytes.
-ghost use Rattle.std.specs.Prelude.{◌≡◌, ℕ, List, [], ◌∷◌, length};
-ghost use Rattle.monthfile.specs.Layout.{source_numbers, bracket_numbers, sales_numbers};
-ghost use Rattle.std.proofs.Common.{rules};
+// Figures that stand in a value as numbers of eight bytes.
+ghost use Rattle.std.specs.Prelude.{◌≡◌, ℕ, List, [], ◌∷◌};
+ghost use Rattle.monthfile.specs.Layout.{source_numbers, energy_numbers, bracket_numbers, sales_numbers};
 
-use month::{Bracket, Sales, Source};
+use month::{Bracket, Energy, Exempt, Sales, Source};
 
-pub(crate) trait Entry {
+// Figures that are K numbers, in the order of the file.
+pub(crate) trait Entry<const K: usize> {
     ghost numbers: { Self → List ℕ };
 
-    fn of(first: u64, second: u64, third: u64) -> Self
-        ensures { numbers result ≡ first ∷ second ∷ third ∷ [] };
+    fn of(figures: &[u64; K]) -> Self
+        ensures { numbers result ≡ figures.now };
 
-    fn in_order(&self) -> [u64; 3]
+    fn in_order(&self) -> [u64; K]
         ensures { result ≡ numbers self.now };
-
-    ghost three: { (x : Self) → length (numbers x) ≡ 3 };
 }
 
-impl Entry for Source {
+impl Entry<1> for u64 {
+    ghost numbers = { λ n. n ∷ [] };
+
+    fn of(&[n]: &[u64; 1]) -> u64 {
+        n
+    }
+
+    fn in_order(&self) -> [u64; 1] {
+        [*self]
+    }
+}
+
+impl Entry<3> for Source {
     ghost numbers = { source_numbers };
 
-    ghost three = { Prim.search rules };
-
-    fn of(cost: u64, taken: u64, passed: u64) -> Source {
+    fn of(&[cost, taken, passed]: &[u64; 3]) -> Source {
         Source {
             cost,
             taken,
@@ -35,12 +43,38 @@ impl Entry for Source {
     }
 }
 
-impl Entry for Bracket {
+impl Entry<5> for (Energy, Exempt) {
+    ghost numbers = { λ e. energy_numbers e.0 e.1 };
+
+    fn of(&[input, substation, feeder, generation, transmission]: &[u64; 5]) -> (Energy, Exempt) {
+        let energy = Energy {
+            input,
+            substation,
+            feeder,
+        };
+        let exempt = Exempt {
+            generation,
+            transmission,
+        };
+        (energy, exempt)
+    }
+
+    fn in_order(&self) -> [u64; 5] {
+        let (energy, exempt) = self;
+        [
+            energy.input,
+            energy.substation,
+            energy.feeder,
+            exempt.generation,
+            exempt.transmission,
+        ]
+    }
+}
+
+impl Entry<3> for Bracket {
     ghost numbers = { bracket_numbers };
 
-    ghost three = { Prim.search rules };
-
-    fn of(kwh: u64, customers: u64, percent: u64) -> Bracket {
+    fn of(&[kwh, customers, percent]: &[u64; 3]) -> Bracket {
         Bracket {
             kwh,
             customers,
@@ -53,12 +87,10 @@ impl Entry for Bracket {
     }
 }
 
-impl Entry for Sales {
+impl Entry<3> for Sales {
     ghost numbers = { sales_numbers };
 
-    ghost three = { Prim.search rules };
-
-    fn of(nonlifeline: u64, rate: u64, metering: u64) -> Sales {
+    fn of(&[nonlifeline, rate, metering]: &[u64; 3]) -> Sales {
         Sales {
             nonlifeline,
             rate,

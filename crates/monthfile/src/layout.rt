@@ -1,57 +1,38 @@
 // The seven fields of a month file, each value in place.
 ghost use Rattle.std.specs.Prelude.{◌≡◌, Some, MatchResult};
 ghost use Rattle.fields.specs.Questions.{first_no};
-ghost use Rattle.monthfile.specs.Questions.{file_asked};
+ghost use Rattle.month.specs.Tags.{tag_number};
+ghost use Rattle.monthfile.specs.Questions.{dues, file_asked};
 ghost use Rattle.monthfile.specs.Values.{MadeOf};
 
 use fields::{Due, Reader};
-use month::FileFault;
+use month::{FileFault, Tag};
 
-// The month, the sources, the pilferage recovery, transmission, energy, the lifeline brackets, sales.
-const DUE: [Due; 7] = [
+// The due field of this tag: from `least` to `most` parts of `each` bytes.
+fn due(tag: Tag, each: usize, least: usize, most: usize) -> Due
+    ensures { result ≡ record { tag = tag_number tag; each = each; least = least; most = most } }
+{
     Due {
-        tag: 1,
-        each: 2,
-        least: 1,
-        most: 1,
-    },
-    Due {
-        tag: 2,
-        each: 24,
-        least: 1,
-        most: 8,
-    },
-    Due {
-        tag: 3,
-        each: 8,
-        least: 1,
-        most: 1,
-    },
-    Due {
-        tag: 4,
-        each: 24,
-        least: 1,
-        most: 1,
-    },
-    Due {
-        tag: 5,
-        each: 40,
-        least: 1,
-        most: 1,
-    },
-    Due {
-        tag: 6,
-        each: 24,
-        least: 0,
-        most: 4,
-    },
-    Due {
-        tag: 7,
-        each: 24,
-        least: 1,
-        most: 1,
-    },
-];
+        tag: u8::from(tag),
+        each,
+        least,
+        most,
+    }
+}
+
+fn due_fields() -> [Due; 7]
+    ensures { result ≡ dues }
+{
+    [
+        due(Tag::Month, 2, 1, 1),
+        due(Tag::Sources, 24, 1, 8),
+        due(Tag::Pilferage, 8, 1, 1),
+        due(Tag::Transmission, 24, 1, 1),
+        due(Tag::Energy, 40, 1, 1),
+        due(Tag::Brackets, 24, 0, 4),
+        due(Tag::Sales, 24, 1, 1),
+    ]
+}
 
 // The values of the fields, in the order of their tags.
 #[derive(Clone, Copy)]
@@ -70,21 +51,30 @@ pub(crate) fn read_values<'a>(file: &'a [u8]) -> Result<Values<'a>, FileFault>
     ensures { MatchResult result (λ v. MadeOf file.now v.month.now v.sources.now v.pilferage.now v.transmission.now v.energy.now v.brackets.now v.sales.now) (λ e. first_no (file_asked file.now) ≡ Some e) }
 {
     let mut reader = Reader::new(file);
-    // Each is replaced below.
+    // Each is replaced below, by its index: no proof knows what an `iter_mut` under a `zip` wrote.
     let mut values = [file; 7];
-    for (i, due) in DUE.iter().enumerate() {
+    for (i, due) in due_fields().iter().enumerate() {
         values[i] = reader.field(*due)?;
     }
     if let Some(at) = reader.next_offset() {
         return Err(FileFault::GoesOn(at));
     }
+    let [
+        month,
+        sources,
+        pilferage,
+        transmission,
+        energy,
+        brackets,
+        sales,
+    ] = values;
     Ok(Values {
-        month: values[0],
-        sources: values[1],
-        pilferage: values[2],
-        transmission: values[3],
-        energy: values[4],
-        brackets: values[5],
-        sales: values[6],
+        month,
+        sources,
+        pilferage,
+        transmission,
+        energy,
+        brackets,
+        sales,
     })
 }

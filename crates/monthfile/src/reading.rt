@@ -12,7 +12,7 @@ ghost use Rattle.monthfile.specs.Questions.{file_asked};
 ghost use Rattle.monthfile.specs.Reading.{States, Accepted, Refused};
 
 use crate::layout::read_values;
-use crate::values::{number_at, read_energy, read_entry, read_list, read_month_number};
+use crate::values::{read_entry, read_list, read_month_number};
 use month::{FileFault, Month, MonthFault, Statement};
 
 // What the file states: questions 1 to 5.
@@ -20,11 +20,11 @@ fn read_statement(file: &[u8]) -> Result<Statement, FileFault>
     ensures { MatchResult result (λ s. file.now ≡ file_of (stated s)) (λ e. first_no (file_asked file.now) ≡ Some e) }
 {
     let values = read_values(file)?;
-    let (energy, exempt) = read_energy(values.energy);
+    let (energy, exempt) = read_entry(values.energy);
     Ok(Statement {
         month: read_month_number(values.month),
         sources: read_list(values.sources),
-        pilferage: number_at(values.pilferage, 0),
+        pilferage: read_entry(values.pilferage),
         transmission: read_entry(values.transmission),
         energy,
         exempt,

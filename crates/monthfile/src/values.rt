@@ -1,14 +1,13 @@
 // The figures in a value.
-ghost use Rattle.std.specs.Prelude.{◌≡◌, ◌+◌, ◌*◌, ◌%◌, ◌^◌, ◌<◌, ◌≤◌, length, take, drop};
+ghost use Rattle.std.specs.Prelude.{◌≡◌, ◌*◌, ◌%◌, ◌^◌, ◌<◌, ◌≤◌, length};
 ghost use Rattle.std.specs.List.{flat_map};
 ghost use Rattle.bounded.specs.View.{held};
 ghost use Rattle.fields.specs.Bytes.{be, eights};
-ghost use Rattle.monthfile.specs.Layout.{energy_numbers, bytes_by};
+ghost use Rattle.monthfile.specs.Layout.{bytes_by};
 
 use crate::entry::Entry;
 use bounded::UpTo;
 use fields::number;
-use month::{Energy, Exempt};
 
 // The number that a part is.
 fn number_in(part: &[u8]) -> u64
@@ -28,47 +27,38 @@ pub(crate) fn read_month_number(part: &[u8]) -> u16
     number_in(part) as u16
 }
 
-// The number in the eight bytes at `at`.
-pub(crate) fn number_at(part: &[u8], at: usize) -> u64
-    requires { at + 8 ≤ length part.now }
-    ensures { take 8 (drop at part.now) ≡ be 8 result }
+// The numbers of eight bytes that a part is.
+fn numbers_in<const K: usize>(part: &[u8]) -> [u64; K]
+    requires { length part.now ≡ 8 * K }
+    ensures { part.now ≡ eights result }
 {
-    number_in(&part[at..at + 8])
+    // Each is replaced below, by its index: no proof knows what an `iter_mut` under a `zip` wrote.
+    let mut numbers = [0; K];
+    for (i, eight) in part.chunks_exact(8).enumerate() {
+        numbers[i] = number_in(eight);
+    }
+    numbers
 }
 
-pub(crate) fn read_entry<E: Entry>(part: &[u8]) -> E
-    requires { length part.now ≡ 24 }
+// The figures that a part is.
+pub(crate) fn read_entry<const K: usize, E: Entry<K>>(part: &[u8]) -> E
+    requires { length part.now ≡ 8 * K }
     ensures { part.now ≡ bytes_by E.numbers result }
 {
-    E::of(number_at(part, 0), number_at(part, 8), number_at(part, 16))
+    E::of(&numbers_in(part))
 }
 
-pub(crate) fn read_list<E: Entry + Copy + Default, const N: usize>(part: &[u8]) -> UpTo<E, N>
+// Entries of three numbers, one after another.
+pub(crate) fn read_list<E: Entry<3> + Copy + Default, const N: usize>(part: &[u8]) -> UpTo<E, N>
     requires whole { length part.now % 24 ≡ 0 }
     requires few { length part.now ≤ 24 * N }
     ensures { part.now ≡ flat_map (bytes_by E.numbers) (held result) }
 {
     let mut list = UpTo::new();
-    for i in 0..part.len() / 24 {
-        let Ok(()) = list.push(read_entry(&part[24 * i..24 * i + 24])) else {
+    for entry in part.chunks_exact(24) {
+        let Ok(()) = list.push(read_entry(entry)) else {
             unreachable()
         };
     }
     list
-}
-
-pub(crate) fn read_energy(part: &[u8]) -> (Energy, Exempt)
-    requires { length part.now ≡ 40 }
-    ensures { part.now ≡ eights (energy_numbers result.0 result.1) }
-{
-    let energy = Energy {
-        input: number_at(part, 0),
-        substation: number_at(part, 8),
-        feeder: number_at(part, 16),
-    };
-    let exempt = Exempt {
-        generation: number_at(part, 24),
-        transmission: number_at(part, 32),
-    };
-    (energy, exempt)
 }

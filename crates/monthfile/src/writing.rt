@@ -1,106 +1,67 @@
 // Writing a month's file into a lent buffer.
-ghost use Rattle.std.specs.Prelude.{◌≡◌, ◌+◌, ◌*◌, ◌≤◌, length, IfOk, MatchResult};
+ghost use Rattle.std.specs.Prelude.{◌≡◌, ◌+◌, ◌*◌, ◌≤◌, ◌++◌, length, IfOk, MatchResult};
 ghost use Rattle.std.specs.List.{flat_map};
+ghost use Rattle.arrayvec.specs.ArrayVec.{array_vec_len};
 ghost use Rattle.fields.specs.Bytes.{be, eights, field_of};
-ghost use Rattle.fields.specs.Places.{Written};
 ghost use Rattle.month.specs.Stated.{stated};
+ghost use Rattle.month.specs.Tags.{tag_number};
 ghost use Rattle.month.specs.View.{figures};
 ghost use Rattle.monthfile.specs.Layout.{bytes_by, file_of};
 ghost use Rattle.monthfile.specs.Writing.{Wrote, Short, WroteBack};
 
 use crate::entry::Entry;
-use fields::{ShortBuffer, ask_room, eight_bytes, head, put, two_bytes};
-use month::{Month, Statement};
+use arrayvec::ArrayVec;
+use fields::{BigEndian, ShortBuffer, ask_room, head, put};
+use month::{Month, Statement, Tag};
 
-// Puts bytes for which there is room.
-fn put_bytes(buffer: &mut [u8], at: usize, bytes: &[u8]) -> usize
-    requires { at + length bytes.now ≤ length buffer.old }
-    ensures written { Written buffer.old buffer.new at bytes.now result }
-    ensures next { result ≡ at + length bytes.now }
+// The longest file, of eight sources and four brackets: 5 + 195 + 11 + 27 + 43 + 99 + 27 bytes.
+const LONGEST: usize = 407;
+
+// A month file while it is written, field after field.
+type FileBytes = ArrayVec<u8, LONGEST>;
+
+// Appends bytes for which there is room.
+fn append(file: &mut FileBytes, bytes: &[u8])
+    requires { array_vec_len file.old + length bytes.now ≤ LONGEST }
+    ensures { file.new.items ≡ file.old.items ++ bytes.now }
 {
-    let Some(next) = put(buffer, at, bytes) else {
+    let Ok(()) = file.try_extend_from_slice(bytes) else {
         unreachable()
     };
-    next
 }
 
-fn put_numbers(buffer: &mut [u8], at: usize, numbers: &[u64]) -> usize
-    requires { at + 8 * length numbers.now ≤ length buffer.old }
-    ensures written { Written buffer.old buffer.new at (eights numbers.now) result }
-    ensures next { result ≡ at + 8 * length numbers.now }
+// Appends the field of these entries.
+fn put_field<const K: usize, E: Entry<K>>(file: &mut FileBytes, tag: Tag, entries: &[E])
+    requires { array_vec_len file.old + 3 + 8 * (K * length entries.now) ≤ LONGEST }
+    ensures longer { array_vec_len file.new ≡ array_vec_len file.old + 3 + 8 * (K * length entries.now) }
+    ensures field { file.new.items ≡ file.old.items ++ field_of (tag_number tag) (flat_map (bytes_by E.numbers) entries.now) }
 {
-    let mut next = at;
-    for n in numbers {
-        next = put_bytes(buffer, next, &eight_bytes(*n));
-    }
-    next
-}
-
-fn put_entries<E: Entry>(buffer: &mut [u8], at: usize, entries: &[E]) -> usize
-    requires { at + 24 * length entries.now ≤ length buffer.old }
-    ensures written { Written buffer.old buffer.new at (flat_map (bytes_by E.numbers) entries.now) result }
-    ensures next { result ≡ at + 24 * length entries.now }
-{
-    let mut next = at;
+    append(file, &head(u8::from(tag), 8 * (K * entries.len()) as u16));
     for entry in entries {
-        next = put_numbers(buffer, next, &entry.in_order());
+        for n in entry.in_order() {
+            append(file, &n.be_bytes());
+        }
     }
-    next
 }
 
-// The field of the month's number.
-fn put_month(buffer: &mut [u8], at: usize, tag: u8, month: u16) -> usize
-    requires { at + 5 ≤ length buffer.old }
-    ensures written { Written buffer.old buffer.new at (field_of tag (be 2 month)) result }
-    ensures next { result ≡ at + 5 }
+// The file of the statement.
+fn file_of(statement: &Statement) -> FileBytes
+    ensures { result.items ≡ file_of (stated statement.now) }
 {
-    let next = put_bytes(buffer, at, &head(tag, 2));
-    put_bytes(buffer, next, &two_bytes(month))
-}
-
-// A field of numbers of eight bytes.
-fn put_field(buffer: &mut [u8], at: usize, tag: u8, numbers: &[u64]) -> usize
-    requires room { at + 3 + 8 * length numbers.now ≤ length buffer.old }
-    requires few { length numbers.now ≤ 5 }
-    ensures written { Written buffer.old buffer.new at (field_of tag (eights numbers.now)) result }
-    ensures next { result ≡ at + 3 + 8 * length numbers.now }
-{
-    let next = put_bytes(buffer, at, &head(tag, 8 * numbers.len() as u16));
-    put_numbers(buffer, next, numbers)
-}
-
-// A field of entries.
-fn put_list<E: Entry>(buffer: &mut [u8], at: usize, tag: u8, entries: &[E]) -> usize
-    requires room { at + 3 + 24 * length entries.now ≤ length buffer.old }
-    requires few { length entries.now ≤ 8 }
-    ensures written { Written buffer.old buffer.new at (field_of tag (flat_map (bytes_by E.numbers) entries.now)) result }
-    ensures next { result ≡ at + 3 + 24 * length entries.now }
-{
-    let next = put_bytes(buffer, at, &head(tag, 24 * entries.len() as u16));
-    put_entries(buffer, next, entries)
-}
-
-// Puts the file of the statement at the start of a buffer that has room for it.
-fn put_file(buffer: &mut [u8], statement: &Statement) -> usize
-    requires { 1024 ≤ length buffer.old }
-    ensures { Written buffer.old buffer.new 0 (file_of (stated statement.now)) result }
-{
-    let energy = statement.energy;
-    let exempt = statement.exempt;
-    let flows = [
-        energy.input,
-        energy.substation,
-        energy.feeder,
-        exempt.generation,
-        exempt.transmission,
-    ];
-    let next = put_month(buffer, 0, 1, statement.month);
-    let next = put_list(buffer, next, 2, statement.sources.as_slice());
-    let next = put_field(buffer, next, 3, &[statement.pilferage]);
-    let next = put_field(buffer, next, 4, &statement.transmission.in_order());
-    let next = put_field(buffer, next, 5, &flows);
-    let next = put_list(buffer, next, 6, statement.brackets.as_slice());
-    put_field(buffer, next, 7, &statement.sales.in_order())
+    let mut file = FileBytes::new();
+    append(&mut file, &head(u8::from(Tag::Month), 2));
+    append(&mut file, &statement.month.be_bytes());
+    put_field(&mut file, Tag::Sources, statement.sources.as_slice());
+    put_field(&mut file, Tag::Pilferage, &[statement.pilferage]);
+    put_field(&mut file, Tag::Transmission, &[statement.transmission]);
+    put_field(
+        &mut file,
+        Tag::Energy,
+        &[(statement.energy, statement.exempt)],
+    );
+    put_field(&mut file, Tag::Brackets, statement.brackets.as_slice());
+    put_field(&mut file, Tag::Sales, &[statement.sales]);
+    file
 }
 
 // Fills the buffer's start with the month's file and answers its length; a short buffer is refused and left as it was.
@@ -109,5 +70,9 @@ pub fn write_month(month: &Month, buffer: &mut [u8]) -> Result<usize, ShortBuffe
     ensures gives_back { IfOk result (λ n. WroteBack month.now buffer.new n) }
 {
     ask_room(buffer)?;
-    Ok(put_file(buffer, month.statement()))
+    let file = file_of(month.statement());
+    let Some(length) = put(buffer, 0, file.as_slice()) else {
+        unreachable()
+    };
+    Ok(length)
 }

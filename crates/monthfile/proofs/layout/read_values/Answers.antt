@@ -15,13 +15,13 @@ loop-i-preserved c =
     let i = c.loop-i.i in
     let value = c.in_ok-values.field-0 in
     let reader = c.field.new.self in
-    let next = pass c.loop-i.invariant c.loop-i-test.true {at' = reader.at} {bytes' = reader.bytes.now} {value = value.now} c.in_ok-values.ensures.cases c.field.ensures.same_bytes in
+    let next = pass c.loop-i.invariant c.loop-i-test.true {at' = reader.at} {bytes' = reader.bytes.now} {value = value.now} (rw c.due_fields.ensures at c.in_ok-values.ensures.cases) c.field.ensures.same_bytes in
     subst (λ vs. Progress c.args.file.now vs (i + 1) reader.bytes.now reader.at) (sym (map-set (λ v. v.now) c.loop-i.values i value)) next
 
 pub returns-in_err-values : goal.returns-in_err-values
 returns-in_err-values c =
     let p = err_from_is_err_and c.from_residual.result c.from_residual.ensures.1 in
-    rw (p.1, p.2) (stop c.loop-i.invariant c.loop-i-test.true {at' = c.field.new.self.at} c.in_err-values.ensures.cases)
+    rw (p.1, p.2) (stop c.loop-i.invariant c.loop-i-test.true {at' = c.field.new.self.at} (rw c.due_fields.ensures at c.in_err-values.ensures.cases))
 
 pub returns-in-Some : goal.returns-in-Some
 returns-in-Some c = goes_on c.loop-i.invariant c.loop-i-test.false c.in-Some.at c.in-Some.ensures

@@ -1,6 +1,6 @@
-use Rattle.std.proofs.Common.{rules}
-use Rattle.fields.proofs.Numerals.{be8}
+use Rattle.std.proofs.Common.{◌∙◌}
+use Rattle.fields.proofs.Numerals.{high_first_is}
 use Rattle.fields.proofs.writing.U64BigEndian8.be_bytes.Goals as goal
 
 pub returns : goal.returns
-returns c = search (rules, be8)
+returns c = c.to_be_bytes.ensures ∙ high_first_is 7 c.args.self c.ranges.self.fits

@@ -1,4 +1,4 @@
-use Rattle.std.proofs.Common.{◌≡◌, None, refl, ap, sym, ◌∙◌, subst, MatchResult}
+use Rattle.std.proofs.Common.{◌≡◌, None, ap, sym, ◌∙◌, subst, MatchResult}
 use Rattle.std.proofs.lemmas.Result.{err_from_is_err_and}
 use Rattle.fields.specs.Questions.{first_no}
 use Rattle.fields.proofs.Asked.{first_no_after, first_no_stop}
