@@ -1,6 +1,7 @@
 -- How large numbers and sums are where no number is outside its limit.
 use Rattle.std.specs.Prelude.{◌*◌, ◌≤◌}
 use Rattle.month.specs.declared.parts.Bracket.{Bracket}
+use Rattle.month.specs.declared.parts.Source.{Source}
 use Rattle.month.specs.declared.parts.Sales.{Sales}
 use Rattle.month.specs.Amounts.{all_bought, sold, hundredfold}
 use Rattle.month.specs.Figures.{Figures}
@@ -18,6 +19,12 @@ pub record Bounded (f : Figures) : Type 0 where
   pub generation_exempt : f.exempt.generation ≤ 10000000
   pub transmission_exempt : f.exempt.transmission ≤ 10000000
   pub sales : sold f ≤ 50000000
+
+-- what was bought from one supplier, or from all
+pub record BoundedSource (s : Source) : Type 0 where
+  pub cost : s.cost ≤ 40000000000
+  pub taken : s.taken ≤ 40000000000
+  pub passed : s.passed ≤ 40000000000
 
 -- a hundred times one bracket's discount, and the parts that it is made of
 pub record BoundedBracket (s : Sales) (b : Bracket) : Type 0 where

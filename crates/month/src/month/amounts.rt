@@ -14,7 +14,10 @@ impl Month {
         ensures most { result ≤ 500000000000 }
     {
         let bought = self.within.bought();
-        bought.gross() - bought.credits(self.within.statement.pilferage)
+        let Some(cost) = bought.recoverable(self.within.statement.pilferage) else {
+            unreachable()
+        };
+        cost
     }
 
     // T, the cost of transmission to recover.
@@ -23,8 +26,10 @@ impl Month {
         ensures formula { pos result ≡ transmission_formula (figures self.now) }
         ensures most { result ≤ 500000000000 }
     {
-        let transmission = self.within.statement.transmission;
-        transmission.gross() - transmission.credits(0)
+        let Some(cost) = self.within.statement.transmission.recoverable(0) else {
+            unreachable()
+        };
+        cost
     }
 
     // S, all kWh sold.

@@ -66,14 +66,10 @@ impl WithinLimits {
             PassedOnAboveTaken(Tag::Transmission),
         )?;
         ask(bought.cost <= MAX_CENTAVOS, CostsTooHigh(Tag::Sources))?;
-        ask(
-            bought.credits(self.statement.pilferage) <= bought.gross(),
-            CostBelowZero(Tag::Sources),
-        )?;
-        ask(
-            transmission.credits(0) <= transmission.gross(),
-            CostBelowZero(Tag::Transmission),
-        )?;
+        let generation = bought.recoverable(self.statement.pilferage);
+        ask(generation.is_some(), CostBelowZero(Tag::Sources))?;
+        let transmitted = transmission.recoverable(0);
+        ask(transmitted.is_some(), CostBelowZero(Tag::Transmission))?;
         ask(self.energy_fits(), EnergyInconsistent(Tag::Energy))?;
         ask(self.sales_fit(), SalesInconsistent(Tag::Sales))
     }

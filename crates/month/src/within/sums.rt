@@ -1,7 +1,7 @@
 // What a statement's lists add up to.
-ghost use Rattle.std.specs.Prelude.{◌≡◌, ◌≤◌};
-ghost use Rattle.month.specs.Amounts.{all_bought, gross, credits, hundredfold, sold};
-ghost use Rattle.month.specs.Bounds.{BoundedBracket};
+ghost use Rattle.std.specs.Prelude.{◌≡◌, ◌-◌, ◌≤◌, pos, is_some, IfSome, nat_le};
+ghost use Rattle.month.specs.Amounts.{all_bought, gross, credits, recoverable, hundredfold, sold};
+ghost use Rattle.month.specs.Bounds.{BoundedSource, BoundedBracket};
 ghost use Rattle.month.specs.Stated.{stated};
 
 use super::WithinLimits;
@@ -13,22 +13,17 @@ const UNITS: u64 = 100;
 const HALF: u64 = 50;
 
 impl Source {
-    // In units: the cost, and half the discount passed on.
-    pub(crate) fn gross(&self) -> u64
-        requires cost { self.now.cost ≤ 40000000000 }
-        requires passed { self.now.passed ≤ 40000000000 }
-        ensures { result ≡ gross self.now }
-    {
-        UNITS * self.cost + HALF * self.passed
-    }
-
-    // In units: what was recovered, and half the discount taken.
-    pub(crate) fn credits(&self, recovered: u64) -> u64
+    // In units: the cost less what was recovered, and less half the discount that was kept; nothing where that is below zero.
+    pub(crate) fn recoverable(&self, recovered: u64) -> Option<u64>
+        requires bought { BoundedSource self.now }
         requires recovered { recovered ≤ 5000000000 }
-        requires taken { self.now.taken ≤ 40000000000 }
-        ensures { result ≡ credits self.now recovered }
+        ensures some { is_some result ≡ nat_le (credits self.now recovered) (gross self.now) }
+        ensures is { IfSome result (λ n. n ≡ gross self.now - credits self.now recovered) }
+        ensures formula { IfSome result (λ n. pos n ≡ recoverable self.now recovered) }
     {
-        UNITS * recovered + HALF * self.taken
+        let gross = UNITS * self.cost + HALF * self.passed;
+        let credits = UNITS * recovered + HALF * self.taken;
+        gross.checked_sub(credits)
     }
 }
 
@@ -45,7 +40,8 @@ impl Bracket {
 impl WithinLimits {
     // All sources as one.
     pub(crate) fn bought(&self) -> Source
-        ensures { result ≡ all_bought (stated self.now.statement) }
+        ensures is { result ≡ all_bought (stated self.now.statement) }
+        ensures bounded { BoundedSource result }
     {
         let mut cost = 0;
         let mut taken = 0;

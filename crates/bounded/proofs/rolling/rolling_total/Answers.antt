@@ -46,10 +46,3 @@ loop-value-preserved g c =
     let is : c.add-total.result ≡ a.plus total figure = c.add-total.ensures ∙ exact in
     let so_far = c.loop-value.invariant.0 in
     (cc, omega (arith, c.loop-value.invariant.1, ap a.size is))
-
-pub returns : goal.returns
-returns g c =
-    let a = g.F.Adds in
-    let all = c.args.values.now in
-    let e = part all (min c.args.window 36) c.saturating_sub-start.result (omega arith) in
-    c.loop-value.invariant.0 ∙ ap (λ l. fold a.plus a.zero (map g.X.Carries.carried l)) (take_all c.loop-value.value-index _ c.loop-value-test.false ∙ e)

@@ -37,7 +37,11 @@ returns c =
     let e = c.as_slice-source-items.ensures.value in
     let i = c.loop-source.source-index in
     let h = c.loop-source-test.false in
-    let a = c.loop-source.invariant.0 ∙ ended cost_of xs _ i e h in
-    let b = c.loop-source.invariant.1 ∙ ended taken_of xs _ i e h in
-    let d = c.loop-source.invariant.2 ∙ ended passed_of xs _ i e h in
-    λ j. record { cost = a j; taken = b j; passed = d j }
+    let cost = c.loop-source.invariant.0 ∙ ended cost_of xs _ i e h in
+    let taken = c.loop-source.invariant.1 ∙ ended taken_of xs _ i e h in
+    let passed = c.loop-source.invariant.2 ∙ ended passed_of xs _ i e h in
+    let most = within_bounded c.args.self.now in
+    record {
+      is = λ j. record { cost = cost j; taken = taken j; passed = passed j };
+      bounded = record { cost = omega arith; taken = omega arith; passed = omega arith };
+    }
