@@ -5,7 +5,7 @@ use Rattle.charges.specs.Charges.{generation, transmission, loss, lifeline}
 use Rattle.charges.specs.Formulas.{twelve_months, gross_up}
 
 -- month 1 of one source and one lifeline bracket, by its pilferage recovery
-sample : ℕ → Figures
+abbrev sample : ℕ → Figures
 sample recovered = record {
   month = 1;
   sources = record { cost = 60000000; taken = 400000; passed = 0 } ∷ [];
@@ -18,36 +18,29 @@ sample recovered = record {
 }
 
 sample_generation : generation.assessed (sample 50000 ∷ []) ≡ (49791, 5377500000)
-unfolding sample
 sample_generation = refl
 
 sample_transmission : transmission.assessed (sample 50000 ∷ []) ≡ (10000, 1080000000)
-unfolding sample
 sample_transmission = refl
 
 sample_loss : (loss generation transmission 500).assessed (sample 50000 ∷ []) ≡ (4645, 501742155)
-unfolding sample
 sample_loss = refl
 
 sample_lifeline : lifeline.assessed (sample 50000 ∷ []) ≡ (3300, 330000000)
-unfolding sample
 sample_lifeline = refl
 
 generation_without_pilferage : generation.assessed (sample 0 ∷ []) ≡ (49833, 5382000000)
-unfolding sample
 generation_without_pilferage = refl
 
 loss_without_pilferage : (loss generation transmission 500).assessed (sample 0 ∷ []) ≡ (4649, 502094602)
-unfolding sample
 loss_without_pilferage = refl
 
 -- of 13 months the last 12 count
 thirteen_months : (twelve_months (replicate 13 (sample 0))).input ≡ 1440000
-unfolding sample
 thirteen_months = refl
 
 -- 1,000 kWh of input at this source cost in centavos
-priced : ℕ → Figures
+abbrev priced : ℕ → Figures
 priced cost = record {
   month = 1;
   sources = record { cost = cost; taken = 0; passed = 0 } ∷ [];
@@ -60,11 +53,9 @@ priced cost = record {
 }
 
 price_of_a_million : generation.fit (priced 10000000) ≡ true
-unfolding priced
 price_of_a_million = refl
 
 price_above_a_million : generation.fit (priced 10000010) ≡ false
-unfolding priced
 price_above_a_million = refl
 
 -- half of the input lost in the substation; in the feeder, with a cap of 5 percent; in the feeder, with a cap of all of it

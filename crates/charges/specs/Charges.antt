@@ -1,5 +1,5 @@
 -- What the charges mean, by the formulas.
-use Rattle.std.specs.Prelude.{ℕ, ◌*◌, ◌/◌, Bool, cond, ◌&&◌, List, [], ◌∷◌, nat_le}
+use Rattle.std.specs.Prelude.{ℕ, ◌*◌, ◌/◌, Bool, if◌then◌else◌, ◌&&◌, List, [], ◌∷◌, nat_le}
 use Rattle.month.specs.Amounts.{sold, discount}
 use Rattle.month.specs.Figures.{Figures}
 use Rattle.charges.specs.Formulas.{generation_rate, generation_allowance, transmission_rate, transmission_allowance, twelve_months, gross_up, loss_rate, loss_allowance, lifeline_rate}
@@ -28,7 +28,7 @@ loss g t cap = record {
   quantity = sold;
   assessed = λ ms.
       let u = gross_up cap (twelve_months ms) in
-      for_last (λ m. cond (g.fit m && t.fit m) (loss_rate (price_of g m) (price_of t m) u, loss_allowance (price_of g m) (price_of t m) u (sold m)) (0, 0)) ms;
+      for_last (λ m. if g.fit m && t.fit m then (loss_rate (price_of g m) (price_of t m) u, loss_allowance (price_of g m) (price_of t m) u (sold m)) else (0, 0)) ms;
 }
 
 abbrev pub lifeline : Meaning

@@ -10,7 +10,7 @@ pub record Made {G T : Type 0} (generation : G) (transmission : T) (cap : ℕ) (
   pub limit : cap ≤ 5000
   pub over_generation : made.generation ≡ generation
   pub over_transmission : made.transmission ≡ transmission
-  pub with_cap : made.cap ≡ cap
+  pub with_cap : made.cap.hundredths ≡ cap
 
 -- the cap is above its limit, and is told as it is
 pub record NotMade (cap : ℕ) (fault : CapTooHigh) : Type 0 where

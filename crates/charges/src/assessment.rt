@@ -1,5 +1,5 @@
 // What a mechanism answers for one month, kept as a value with the law in its type.
-ghost use Rattle.std.specs.Prelude.{◌+◌, ◌*◌, ◌<◌, ◌≤◌};
+ghost use Rattle.charges.specs.Meaning.{LawfulAnswer};
 
 mod making;
 
@@ -9,9 +9,5 @@ pub struct Assessment {
     pub quantity: u64,
     pub rate: u64,
     pub allowance: u64,
-    ghost least: { 1 ≤ quantity },
-    ghost most: { quantity ≤ 10000000 },
-    ghost limit: { rate ≤ 10000000 },
-    ghost covered: { rate * quantity ≤ allowance },
-    ghost tight: { allowance < (rate + 1) * quantity },
+    ghost lawful: { LawfulAnswer quantity (rate, allowance) },
 }

@@ -36,6 +36,7 @@ impl<P: Purchase> Mechanism for AverageCost<P> {
         month.sales()
     }
 
+    #[tactic(auto, using(crate::specs::Last::with_last, crate::proofs::Sold::cost_fits))]
     fn assess(&self, months: &[Month]) -> (u64, u64) {
         let Some(month) = months.last() else {
             return (0, 0);
@@ -47,8 +48,9 @@ impl<P: Purchase> Mechanism for AverageCost<P> {
 }
 
 impl<P: Purchase> Priced for AverageCost<P> {
-    ghost priced = { λ s. average_priced (P.Purchase.cost s.purchase) (P.Purchase.divisor s.purchase) (P.Purchase.some s.purchase) };
+    ghost priced = { λ s. average_priced (P.Purchase.cost s.purchase) (P.Purchase.divisor s.purchase) };
 
+    #[tactic(auto, using(crate::specs::Laws::average_price))]
     fn price(&self, month: &Month) -> u64 {
         self.purchase.cost(month) / self.purchase.divisor(month)
     }

@@ -22,6 +22,7 @@ impl Mechanism for Lifeline {
         month.statement().sales.nonlifeline
     }
 
+    #[tactic(auto, using(crate::specs::Last::with_last))]
     fn assess(&self, months: &[Month]) -> (u64, u64) {
         let Some(month) = months.last() else {
             return (0, 0);

@@ -10,6 +10,7 @@ use bounded::rolling_total;
 use month::{Energy, Month};
 
 // Input and losses of the latest twelve months, or of fewer when fewer stand.
+#[tactic(auto, using(crate::specs::Energies::twelve_total, crate::specs::Energies::recent_kept))]
 pub fn recent_energy(months: &[Month]) -> Energy
     ensures is { result ≡ twelve_months (map figures months.now) }
     ensures losses { 2 * (result.substation + result.feeder) ≤ result.input }

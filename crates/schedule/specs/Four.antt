@@ -10,4 +10,4 @@ four_charges cap = generation ∷ transmission ∷ loss generation transmission 
 
 -- the cap that the loss charge was made with
 abbrev pub cap_of : FourCharges → ℕ
-cap_of s = s.row.second.first.mechanism.cap
+cap_of s = s.row.second.first.mechanism.cap.hundredths

@@ -1,19 +1,9 @@
 -- Where a number of two rows joined is found.
-use Rattle.std.specs.Prelude.{◌≡◌, ℕ, ◌≤◌, List, ◌++◌}
+use Rattle.std.specs.Prelude.{◌≡◌, ℕ, ◌≤◌, List, ◌++◌, Option, Some, None}
 use Rattle.charges.specs.Meaning.{Meaning}
-use Rattle.schedule.specs.declared.joined.Side.{Side}
-use Rattle.schedule.specs.declared.joined.Side.TheVariants.{First, Second}
 use Rattle.schedule.specs.Rows.{numbered}
 
-abbrev pub number_there : Side → ℕ
-number_there (First n) = n
-number_there (Second n) = n
-
-abbrev pub named_there : List Meaning → List Meaning → Side → Meaning
-named_there first second (First n) = numbered first n
-named_there first second (Second n) = numbered second n
-
--- the number on that side is one that may be asked, and names the same mechanism
-pub record Found (first second : List Meaning) (number : ℕ) (side : Side) : Type 0 where
-  pub low : number_there side ≤ 7
-  pub same : named_there first second side ≡ numbered (first ++ second) number
+-- it names the same mechanism in the first row by itself, or in the second by a number that may be asked
+abbrev pub Found : List Meaning → List Meaning → ℕ → Option ℕ → Type 0
+Found first second number None = numbered first number ≡ numbered (first ++ second) number
+Found first second number (Some n) = (n ≤ 7) × (numbered second n ≡ numbered (first ++ second) number)

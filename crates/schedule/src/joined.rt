@@ -6,9 +6,3 @@ pub struct Joined<F, S> {
     pub first: F,
     pub second: S,
 }
-
-// The schedule that has a mechanism, and its number there.
-enum Side {
-    First(usize),
-    Second(usize),
-}

@@ -1,23 +1,25 @@
 // Making an assessment of an answer, and its allowance as a figure that adds up.
 ghost use Rattle.std.specs.Prelude.{◌≡◌, MatchOption};
 ghost use Rattle.charges.specs.Meaning.{LawfulAnswer};
-ghost use Rattle.charges.specs.Assessed.{allowance_of, allowance_small};
+ghost use Rattle.charges.specs.Assessed.{allowance_of};
+ghost use Rattle.std.proofs.Common.{rules};
 
 use super::Assessment;
-use crate::limits;
+use crate::limits::MAX_ANSWER;
 use bounded::Carries;
 
 impl Assessment {
     // None where the answer breaks the law, which no fit month's does.
     pub fn new(quantity: u64, answer: (u64, u64)) -> Option<Assessment>
-        ensures { MatchOption result (LawfulAnswer quantity answer → ⊥) (λ a. (a.quantity ≡ quantity) × (a.rate ≡ answer.0) × (a.allowance ≡ answer.1)) }
+        ensures { MatchOption result (¬ LawfulAnswer quantity answer) (λ a. (a.quantity ≡ quantity) × (a.rate ≡ answer.0) × (a.allowance ≡ answer.1)) }
     {
         let (rate, allowance) = answer;
-        if quantity < 1 || quantity > limits::MAX_ANSWER || rate > limits::MAX_ANSWER {
+        if !(1..=MAX_ANSWER).contains(&quantity) || rate > MAX_ANSWER {
             return None;
         }
-        let least = rate * quantity;
-        if allowance < least || allowance - least >= quantity {
+        // What the allowance has above the quantity at the base rate.
+        let above = allowance.checked_sub(rate * quantity)?;
+        if above >= quantity {
             return None;
         }
         Some(Assessment {
@@ -31,7 +33,7 @@ impl Assessment {
 impl Carries<u64> for Assessment {
     ghost carried = { allowance_of };
 
-    ghost small = { allowance_small };
+    ghost small = { Prim.search rules };
 
     fn figure(&self) -> u64 {
         self.allowance

@@ -7,10 +7,10 @@ use super::CapTooHigh;
 use fields::{Layer, Refusal};
 use std::fmt;
 
-impl CapTooHigh {
-    pub fn refusal(&self) -> Refusal
-        ensures { result ≡ cap_refusal self.now }
-    {
+impl From<CapTooHigh> for Refusal {
+    ghost from_gives = { λ fault told. told ≡ cap_refusal fault };
+
+    fn from(_fault: CapTooHigh) -> Refusal {
         Refusal {
             number: 15,
             layer: Layer::Book,

@@ -7,27 +7,27 @@ ghost use Rattle.charges.specs.Losses.{loss_lawful};
 
 use super::Loss;
 use crate::average_cost::averaged;
+use crate::cap::Cap;
 use crate::mechanism::Mechanism;
 use crate::priced::Priced;
 use crate::recent::recent_energy;
 use month::Month;
 
 // U, the gross-up factor of the latest twelve months, in ten-thousandths.
-fn gross_up(cap: u64, months: &[Month]) -> u64
-    requires limit { cap ≤ 5000 }
-    requires some { 0 < length months.now }
-    ensures is { result ≡ gross_up cap (twelve_months (map figures months.now)) }
+fn gross_up(cap: Cap, months: &[Month]) -> u64
+    requires { 0 < length months.now }
+    ensures is { result ≡ gross_up cap.hundredths (twelve_months (map figures months.now)) }
     ensures most { result ≤ 10000 }
 {
     let energy = recent_energy(months);
-    let feeder = (10_000 * energy.feeder).min(cap * energy.input);
+    let feeder = (10_000 * energy.feeder).min(cap.hundredths * energy.input);
     (10_000 * energy.substation + feeder) / (energy.input - energy.substation - energy.feeder)
 }
 
 impl<G: Priced, T: Priced> Mechanism for Loss<G, T> {
-    ghost meaning = { λ s. loss (G.Mechanism.meaning s.generation) (T.Mechanism.meaning s.transmission) s.cap };
+    ghost meaning = { λ s. loss (G.Mechanism.meaning s.generation) (T.Mechanism.meaning s.transmission) s.cap.hundredths };
 
-    ghost lawful = { λ l. loss_lawful (G.Mechanism.meaning l.generation) (T.Mechanism.meaning l.transmission) (G.Priced.priced l.generation) (T.Priced.priced l.transmission) l.cap };
+    ghost lawful = { λ l. loss_lawful (G.Mechanism.meaning l.generation) (T.Mechanism.meaning l.transmission) (G.Priced.priced l.generation) (T.Priced.priced l.transmission) l.cap.hundredths };
 
     fn is_fit(&self, month: &Month) -> bool {
         self.generation.is_fit(month) && self.transmission.is_fit(month)
@@ -37,6 +37,7 @@ impl<G: Priced, T: Priced> Mechanism for Loss<G, T> {
         month.sales()
     }
 
+    #[tactic(auto, using(crate::specs::Last::with_last, crate::proofs::Sold::loss_fits))]
     fn assess(&self, months: &[Month]) -> (u64, u64) {
         let Some(month) = months.last() else {
             return (0, 0);

@@ -18,17 +18,15 @@ impl FourCharges {
     pub fn new(cap: u64) -> Result<FourCharges, CapTooHigh>
         ensures { MatchResult result (λ s. (cap ≤ 5000) × (cap_of s ≡ cap)) (λ e. NotMade cap e) }
     {
-        let generation = Generation::default();
-        let transmission = Transmission::default();
         let loss = Loss::new(Generation::default(), Transmission::default(), cap)?;
         Ok(FourCharges {
             row: Joined {
                 first: Joined {
                     first: Single {
-                        mechanism: generation,
+                        mechanism: Generation::default(),
                     },
                     second: Single {
-                        mechanism: transmission,
+                        mechanism: Transmission::default(),
                     },
                 },
                 second: Joined {

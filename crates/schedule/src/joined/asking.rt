@@ -4,20 +4,16 @@ ghost use Rattle.schedule.specs.Sides.{Found};
 ghost use Rattle.std.proofs.lemmas.List.Elements.{All-append};
 ghost use Rattle.charges.specs.Meaning.{Lawful};
 
-use super::{Joined, Side};
+use super::Joined;
 use crate::schedule::Schedule;
 use month::Month;
 
 impl<F: Schedule, S: Schedule> Joined<F, S> {
-    fn side(&self, number: usize) -> Side
+    // A mechanism's number in the second schedule, or None where the first has it.
+    fn in_second(&self, number: usize) -> Option<usize>
         ensures { number ≤ 7 → Found (F.Schedule.meaning self.now.first) (S.Schedule.meaning self.now.second) number result }
     {
-        let count = self.first.count();
-        if number < count {
-            Side::First(number)
-        } else {
-            Side::Second(number - count)
-        }
+        number.checked_sub(self.first.count())
     }
 }
 
@@ -31,23 +27,23 @@ impl<F: Schedule, S: Schedule> Schedule for Joined<F, S> {
     }
 
     fn is_fit(&self, number: usize, month: &Month) -> bool {
-        match self.side(number) {
-            Side::First(n) => self.first.is_fit(n, month),
-            Side::Second(n) => self.second.is_fit(n, month),
+        match self.in_second(number) {
+            None => self.first.is_fit(number, month),
+            Some(n) => self.second.is_fit(n, month),
         }
     }
 
     fn quantity(&self, number: usize, month: &Month) -> u64 {
-        match self.side(number) {
-            Side::First(n) => self.first.quantity(n, month),
-            Side::Second(n) => self.second.quantity(n, month),
+        match self.in_second(number) {
+            None => self.first.quantity(number, month),
+            Some(n) => self.second.quantity(n, month),
         }
     }
 
     fn assess(&self, number: usize, months: &[Month]) -> (u64, u64) {
-        match self.side(number) {
-            Side::First(n) => self.first.assess(n, months),
-            Side::Second(n) => self.second.assess(n, months),
+        match self.in_second(number) {
+            None => self.first.assess(number, months),
+            Some(n) => self.second.assess(n, months),
         }
     }
 }
