@@ -39,7 +39,12 @@ fn sources_of(numbers: &[u64]) -> anyhow::Result<UpTo<Source, 8>> {
         taken,
         passed,
     };
-    list_of(numbers, source, "a source has three numbers", "more than eight sources")
+    list_of(
+        numbers,
+        source,
+        "a source has three numbers",
+        "more than eight sources",
+    )
 }
 
 fn brackets_of(numbers: &[u64]) -> anyhow::Result<UpTo<Bracket, 4>> {
@@ -48,7 +53,12 @@ fn brackets_of(numbers: &[u64]) -> anyhow::Result<UpTo<Bracket, 4>> {
         customers,
         percent,
     };
-    list_of(numbers, bracket, "a bracket has three numbers", "more than four brackets")
+    list_of(
+        numbers,
+        bracket,
+        "a bracket has three numbers",
+        "more than four brackets",
+    )
 }
 
 pub(crate) fn statement_of(heap: Global, line: &str) -> anyhow::Result<Statement> {

@@ -12,6 +12,7 @@ use charges::{
 use fields::{Layer, Refusal};
 use month::{Bracket, Energy, Month, Sales, Source};
 use schedule::{FourCharges, Joined, Schedule, Single};
+use std::alloc::Global;
 use std::process::Abort;
 use std::test::Fail;
 
@@ -194,9 +195,9 @@ fn lifeline_at_its_limit(rt: HostRuntime) -> Result<(), Fail> {
 }
 
 // Month k has 1,000 + k kWh of input, of which k and 2 k are lost.
-fn months_of_differing_energy() -> Result<[Month; 36], Fail> {
-    let mut months = [priced(1, 1).month()?; 36];
-    for (month, k) in months.iter_mut().zip(1..=36) {
+fn months_of_differing_energy(heap: Global) -> Result<Vec<Month>, Fail> {
+    let mut months = Vec::new(heap);
+    for k in 1..=36 {
         let sketch = Sketch {
             energy: Energy {
                 input: 1_000 + k,
@@ -205,14 +206,14 @@ fn months_of_differing_energy() -> Result<[Month; 36], Fail> {
             },
             ..priced(1, 1)
         };
-        *month = sketch.month()?;
+        months.push(sketch.month()?)?;
     }
     Ok(months)
 }
 
 #[test]
 fn windows_of_twelve_months(rt: HostRuntime) -> Result<(), Fail> {
-    let months = months_of_differing_energy()?;
+    let months = months_of_differing_energy(rt.alloc())?;
     let rows = [
         (1, 1_001, 1),
         (3, 3_006, 6),
@@ -222,8 +223,8 @@ fn windows_of_twelve_months(rt: HostRuntime) -> Result<(), Fail> {
         (36, 12_366, 366),
     ];
     for (standing, input, substation) in rows {
-        assert!(rt; standing <= 36);
-        let total = recent_energy(&months[0..standing]);
+        assert!(rt; standing <= months.len());
+        let total = recent_energy(&months.as_slice()[..standing]);
         assert_eq!(rt; total.input, input);
         assert_eq!(rt; total.substation, substation);
         assert_eq!(rt; total.feeder, 2 * substation);
@@ -232,23 +233,20 @@ fn windows_of_twelve_months(rt: HostRuntime) -> Result<(), Fail> {
 }
 
 // Month k has an allowance of 10 k + 3 units.
-fn assessments_of_differing_allowance() -> Result<[Assessment; 36], Fail> {
-    let Some(first) = Assessment::new(10, (1, 13)) else {
-        return Err(Fail::new("no answer of a mechanism"));
-    };
-    let mut assessments = [first; 36];
-    for (assessment, k) in assessments.iter_mut().zip(1..=36) {
-        let Some(answered) = Assessment::new(10, (k, 10 * k + 3)) else {
+fn assessments_of_differing_allowance(heap: Global) -> Result<Vec<Assessment>, Fail> {
+    let mut assessments = Vec::new(heap);
+    for k in 1..=36 {
+        let Some(assessment) = Assessment::new(10, (k, 10 * k + 3)) else {
             return Err(Fail::new("no answer of a mechanism"));
         };
-        *assessment = answered;
+        assessments.push(assessment)?;
     }
     Ok(assessments)
 }
 
 #[test]
 fn windows_of_three_months(rt: HostRuntime) -> Result<(), Fail> {
-    let assessments = assessments_of_differing_allowance()?;
+    let assessments = assessments_of_differing_allowance(rt.alloc())?;
     let rows = [
         (1, 13),
         (3, 69),
@@ -258,8 +256,11 @@ fn windows_of_three_months(rt: HostRuntime) -> Result<(), Fail> {
         (36, 1_059),
     ];
     for (standing, total) in rows {
-        assert!(rt; standing <= 36);
-        assert_eq!(rt; recent_allowances(&assessments[0..standing]), total);
+        assert!(rt; standing <= assessments.len());
+        assert_eq!(rt;
+            recent_allowances(&assessments.as_slice()[..standing]),
+            total
+        );
     }
     Ok(())
 }

@@ -1,5 +1,5 @@
 -- Input and losses of the latest twelve months.
-use Rattle.std.specs.Prelude.{◌≡◌, ℕ, ◌+◌, ◌-◌, ◌*◌, ◌≤◌, min, List, [], ◌∷◌, map, length, fold, sum_by, slice_index_or, All}
+use Rattle.std.specs.Prelude.{◌≡◌, ℕ, ◌+◌, ◌-◌, ◌*◌, ◌/◌, ◌≤◌, min, List, [], ◌∷◌, map, length, fold, sum_by, slice_index_or, All}
 use Rattle.std.proofs.Common.{◌∙◌, arith}
 use Rattle.std.proofs.lemmas.Grind.{common_steps}
 use Rattle.std.proofs.lemmas.Nat.{div_below}
@@ -53,5 +53,8 @@ recent_kept ms =
     rw (twelve_total ms, ← few) (twelve_kept (map figures ms) (months_valid ms))
 
 -- by the feeder loss that is charged
+pub gross_up_is : (cap : ℕ) (e : Energy) (feeder : ℕ) → feeder ≡ min (10000 * e.feeder) (cap * e.input) → (10000 * e.substation + feeder) / (e.input - e.substation - e.feeder) ≡ gross_up cap e
+gross_up_is cap e feeder is = rw is
+
 pub gross_up_most : (cap : ℕ) (e : Energy) → 2 * (e.substation + e.feeder) ≤ e.input → 1 ≤ e.input → gross_up cap e ≤ 10000
 gross_up_most cap e losses some = grind (arith, div_below)

@@ -1,8 +1,7 @@
 // Making an assessment of an answer, and its allowance as a figure that adds up.
 ghost use Rattle.std.specs.Prelude.{◌≡◌, MatchOption};
 ghost use Rattle.charges.specs.Meaning.{LawfulAnswer};
-ghost use Rattle.charges.specs.Assessed.{allowance_of};
-ghost use Rattle.std.proofs.Common.{rules};
+ghost use Rattle.charges.specs.Assessed.{allowance_of, allowance_small};
 
 use super::Assessment;
 use crate::limits::MAX_ANSWER;
@@ -33,7 +32,7 @@ impl Assessment {
 impl Carries<u64> for Assessment {
     ghost carried = { allowance_of };
 
-    ghost small = { Prim.search rules };
+    ghost small = { allowance_small };
 
     fn figure(&self) -> u64 {
         self.allowance
