@@ -1,10 +1,10 @@
 -- A mechanism of the tests' own: every kWh sold at one rate.
 use Rattle.std.specs.Prelude.{ℕ, ◌*◌, ◌≤◌, true}
-use Rattle.std.proofs.Common.{sym, subst, ap, add-mul, arith}
+use Rattle.std.proofs.Common.{add-mul, arith}
 use Rattle.month.specs.Amounts.{sold}
 use Rattle.charges.specs.Charges.{for_last}
 use Rattle.charges.specs.Last.{last_answered, last_fit}
-use Rattle.charges.specs.Meaning.{Meaning, Lawful, LawfulAnswer, LawfulPrice}
+use Rattle.charges.specs.Meaning.{Meaning, Lawful, LawfulPrice}
 
 abbrev pub flat_fee : ℕ → Meaning
 flat_fee rate = record { fit = λ _. true; quantity = sold; assessed = for_last (λ m. (rate, rate * sold m)) }
@@ -14,7 +14,7 @@ module _ (rate : ℕ) (limit : rate ≤ 1000000) where
   pub flat_fee_lawful : Lawful (flat_fee rate)
   flat_fee_lawful before m fit =
       let v = (last_fit (flat_fee rate) before m fit).0 in
-      subst (LawfulAnswer (sold m)) (sym (last_answered (λ f. (rate, rate * sold f)) before m)) (record {
+      rw last_answered (record {
         least = omega (arith, v.some_sold);
         most = omega (arith, v.sold_generation, v.within.input_most);
         rate_limit = omega (arith, limit);
@@ -23,7 +23,4 @@ module _ (rate : ℕ) (limit : rate ≤ 1000000) where
       })
 
   pub flat_fee_priced : LawfulPrice (flat_fee rate)
-  flat_fee_priced = record {
-    month_alone = λ before m fit. ap (λ p. p.0) (last_answered (λ f. (rate, rate * sold f)) before m);
-    price_limit = λ m v fit. limit;
-  }
+  flat_fee_priced = record { month_alone = λ before m fit. rw last_answered; price_limit = λ m v fit. limit }

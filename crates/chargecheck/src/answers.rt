@@ -20,7 +20,9 @@ pub(crate) fn print_answers(
             let quantity = charges.quantity(number, month);
             let (rate, allowance) = charges.assess(number, &[*month]);
             let allowance = Units(allowance);
-            println!(rt; "charge {number}, {name}: quantity {quantity} kWh, base rate {rate} units per kWh, allowance: {allowance}")?;
+            println!(rt;
+                "charge {number}, {name}: quantity {quantity} kWh, base rate {rate} units per kWh, allowance: {allowance}"
+            )?;
         } else {
             println!(rt; "charge {number}, {name}: the month is not fit")?;
         }

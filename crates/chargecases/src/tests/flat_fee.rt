@@ -30,6 +30,7 @@ impl Mechanism for FlatFee {
         month.sales()
     }
 
+    #[tactic(auto, using(charges::specs::Last::with_last))]
     fn assess(&self, months: &[Month]) -> (u64, u64) {
         let Some(month) = months.last() else {
             return (0, 0);
@@ -41,6 +42,7 @@ impl Mechanism for FlatFee {
 impl Priced for FlatFee {
     ghost priced = { λ s. flat_fee_priced s.rate s.limit };
 
+    #[tactic(auto, using(charges::specs::Last::last_answered))]
     fn price(&self, _month: &Month) -> u64 {
         self.rate
     }

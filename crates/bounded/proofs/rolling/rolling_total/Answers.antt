@@ -1,5 +1,5 @@
 use Rattle.std.proofs.Common.{◌≡◌, ℕ, ◌+◌, ◌-◌, ◌*◌, ◌<◌, ◌≤◌, min, List, map, length, get_or, take, drop, fold, sum_by, sym, ap, ◌∙◌, mul-le-mul_right, arith, All}
-use Rattle.std.proofs.lemmas.List.{length-map, length-take-le, map_more, take_all}
+use Rattle.std.proofs.lemmas.List.{length-map, length-take-le, map_more}
 use Rattle.std.proofs.lemmas.List.Sums.{fold_push, sum_by_push, sum_by-le}
 use Rattle.std.proofs.lemmas.List.Elements.{All-map}
 use Rattle.bounded.proofs.Ends.{part, latest_length}
