@@ -5,7 +5,7 @@ use std::alloc::AllocError;
 
 mod lists;
 
-// The first `len` items count; what stands past them is never looked at.
+// The first `len` items count; what stands past them is never looked at. It is no `ArrayVec` of the kit, which cannot be copied.
 #[derive(Copy)]
 pub struct UpTo<T, const N: usize> {
     items: [T; N],
@@ -14,6 +14,7 @@ pub struct UpTo<T, const N: usize> {
     ghost within: { len ≤ N },
 }
 
+// Written out, since no `Clone` can be derived for a generic struct with ghost fields.
 impl<T: Copy, const N: usize> Clone for UpTo<T, N> {
     ghost is_clone = { λ u v. u ≡ v };
 

@@ -12,6 +12,7 @@ pub(crate) fn answers_of<S: Schedule>(
     let Some(month) = months.last() else {
         return Ok(line);
     };
+    // A schedule is asked by number, and has no iterator.
     for number in 0..schedule.count().min(8) {
         if number > 0 {
             line.push_str(" | ")?;

@@ -16,7 +16,7 @@ pub trait Mechanism {
     fn quantity(&self, month: &Month) -> u64
         ensures { result ≡ (meaning self.now).quantity (figures month.now) };
 
-    // The base rate and the allowance of the last month.
+    // The base rate and the allowance of the last month, as a pair: they are answered together.
     fn assess(&self, months: &[Month]) -> (u64, u64)
         ensures { result ≡ (meaning self.now).assessed (map figures months.now) };
 

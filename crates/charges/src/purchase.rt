@@ -12,6 +12,7 @@ pub trait Purchase {
 
     ghost divisor: { Self → Figures → ℕ };
 
+    // Its bound stands at each function that works a cost out: a type of its own would be taken apart at each use.
     fn cost(&self, month: &Month) -> u64
         ensures is { result ≡ cost self.now (figures month.now) }
         ensures most { result ≤ 500000000000 };

@@ -9,6 +9,7 @@ pub fn number(part: &[u8]) -> Option<u64>
     if part.len() > 8 {
         return None;
     }
+    // The library's `from_be_bytes` takes eight bytes, and a part may have fewer.
     let mut n = 0;
     for b in part {
         n = n * 256 + u64::from(*b);

@@ -5,7 +5,7 @@ ghost use Rattle.fields.specs.Heads.{Took, Stopped, next_offset};
 use crate::due::Due;
 use crate::fault::FieldFault;
 
-// The bytes, and the offset of the next field.
+// The bytes, and the offset of the next field, which a fault tells.
 #[derive(Drop)]
 pub struct Reader<'a> {
     bytes: &'a [u8],

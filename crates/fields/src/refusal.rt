@@ -12,7 +12,8 @@ pub enum Layer {
     Book,
 }
 
-// The number of the first question that was answered no, its layer, and the place that it names.
+// The number of the first question that was answered no, its layer, and the place that it names. The kinds of refusal are the enums of
+// faults; the number is what is told of each.
 #[derive(Clone, Copy, Debug, PartialEq, Eq)]
 pub struct Refusal {
     pub number: u8,

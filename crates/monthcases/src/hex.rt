@@ -1,4 +1,4 @@
-// Bytes written as pairs of hexadecimal digits.
+// Bytes written as pairs of hexadecimal digits, small ones alone: the library's conversions read capital ones too.
 ghost use Rattle.std.specs.Prelude.{◌<◌, IfSome};
 
 use anyhow::anyhow;

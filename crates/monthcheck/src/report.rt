@@ -1,4 +1,4 @@
-// What a month states, and what follows, a line for each.
+// What a month states, and what follows, a line for each. A function prints lines of one form; the handle goes first, as in std.
 use month::{Month, Source, Statement, Units};
 use std::fmt::Display;
 use std::io;

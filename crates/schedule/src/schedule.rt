@@ -6,7 +6,8 @@ ghost use Rattle.schedule.specs.Rows.{numbered, told};
 
 use month::Month;
 
-// A row of mechanisms, each lawful. It is asked only for its numbers up to 7: beyond them nothing is promised.
+// A row of mechanisms, each lawful. It is asked only for its numbers up to 7: beyond them nothing is promised, and a type for such numbers
+// would ask more of callers. They are numbers and no enum, since any two rows may be joined.
 pub trait Schedule {
     ghost meaning: { Self → List Meaning };
 

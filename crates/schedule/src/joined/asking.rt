@@ -17,6 +17,7 @@ impl<F: Schedule, S: Schedule> Joined<F, S> {
     }
 }
 
+// Each question looks for its schedule by itself: the two are of different types, so one helper would take a closure for each.
 impl<F: Schedule, S: Schedule> Schedule for Joined<F, S> {
     ghost meaning = { λ s. F.Schedule.meaning s.first ++ S.Schedule.meaning s.second };
 
