@@ -5,7 +5,8 @@ use std::alloc::AllocError;
 
 mod lists;
 
-// The first `len` items count; what stands past them is never looked at. It is no `ArrayVec` of the kit, which cannot be copied.
+// The first `len` items count; what stands past them is never looked at. It is no `ArrayVec` of the kit, which cannot be copied, and
+// contracts see it through `held`: an `impl Model` of a `Copy` struct has to give all fields back from the list.
 #[derive(Copy)]
 pub struct UpTo<T, const N: usize> {
     items: [T; N],

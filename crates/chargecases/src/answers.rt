@@ -8,15 +8,12 @@ pub(crate) fn answers_of<S: Schedule>(
     schedule: &S,
     months: &[Month],
 ) -> Result<String, AllocError> {
-    let mut line = String::new(heap);
     let Some(month) = months.last() else {
-        return Ok(line);
+        return Ok(String::new(heap));
     };
+    let mut answers = Vec::new(heap);
     // A schedule is asked by number, and has no iterator.
     for number in 0..schedule.count().min(8) {
-        if number > 0 {
-            line.push_str(" | ")?;
-        }
         let fit = if schedule.is_fit(number, month) {
             "fit"
         } else {
@@ -24,8 +21,7 @@ pub(crate) fn answers_of<S: Schedule>(
         };
         let quantity = schedule.quantity(number, month);
         let (rate, allowance) = schedule.assess(number, months);
-        let answer = format!(in heap; "{fit} {quantity} {rate} {allowance}")?;
-        line.push_str(answer.as_str())?;
+        answers.push(format!(in heap; "{fit} {quantity} {rate} {allowance}")?)?;
     }
-    Ok(line)
+    answers.as_slice().join(heap, " | ")
 }

@@ -12,7 +12,7 @@ fn numbers_of(heap: Global, text: &str) -> anyhow::Result<Vec<u64>> {
     Ok(numbers)
 }
 
-// A list whose entries have three numbers each, and what is said where one has not, or where there is no room.
+// A list whose entries have three numbers each, and what is said of an entry without three, or of one too many.
 fn list_of<T: Copy + Default, const N: usize, F: Fn(u64, u64, u64) -> T>(
     numbers: &[u64],
     entry: F,
@@ -69,7 +69,22 @@ pub(crate) fn statement_of(heap: Global, line: &str) -> anyhow::Result<Statement
         return Err(anyhow!("a line has three parts"));
     };
     let numbers = numbers_of(heap, single)?;
-    let [month, p, cost, taken, passed, i, a, f, x, y, n, r, m] = *numbers.as_slice() else {
+    let [
+        month,
+        pilferage,
+        cost,
+        taken,
+        passed,
+        input,
+        substation,
+        feeder,
+        no_generation,
+        no_transmission,
+        nonlifeline,
+        rate,
+        metering,
+    ] = *numbers.as_slice()
+    else {
         return Err(anyhow!("a month has thirteen single figures"));
     };
     let sources = sources_of(numbers_of(heap, sources)?.as_slice())?;
@@ -79,26 +94,26 @@ pub(crate) fn statement_of(heap: Global, line: &str) -> anyhow::Result<Statement
     Ok(Statement {
         month: u16::try_from(month)?,
         sources,
-        pilferage: p,
+        pilferage,
         transmission: Source {
             cost,
             taken,
             passed,
         },
         energy: Energy {
-            input: i,
-            substation: a,
-            feeder: f,
+            input,
+            substation,
+            feeder,
         },
         exempt: Exempt {
-            generation: x,
-            transmission: y,
+            generation: no_generation,
+            transmission: no_transmission,
         },
         brackets: brackets_of(numbers_of(heap, brackets)?.as_slice())?,
         sales: Sales {
-            nonlifeline: n,
-            rate: r,
-            metering: m,
+            nonlifeline,
+            rate,
+            metering,
         },
     })
 }

@@ -8,7 +8,6 @@ mod tests;
 
 use crate::answers::answers_of;
 use crate::figures::statement_of;
-use anyhow::anyhow;
 use fields::Refusal;
 use month::Month;
 use schedule::FourCharges;
@@ -49,11 +48,8 @@ impl Row {
 }
 
 fn main(rt: HostRuntime) -> anyhow::Result<()> {
-    let Ok(charges) = FourCharges::new(500) else {
-        return Err(anyhow!("no charges"));
-    };
     let mut row = Row {
-        charges,
+        charges: FourCharges::new(500)?,
         months: Vec::new(rt.alloc()),
     };
     for line in BufReader::new(rt.alloc(), rt.stdin())?.lines(rt.alloc()) {

@@ -17,10 +17,7 @@ use std::process::Abort;
 use std::test::Fail;
 
 fn four(cap: u64) -> Result<FourCharges, Fail> {
-    let Ok(charges) = FourCharges::new(cap) else {
-        return Err(Fail::new("the cap is refused"));
-    };
-    Ok(charges)
+    Ok(FourCharges::new(cap)?)
 }
 
 fn check_answer<S: Schedule>(
@@ -127,9 +124,7 @@ fn priced(generation: u64, transmission: u64) -> Sketch {
 fn price_at_its_limit(rt: HostRuntime) -> Result<(), Fail> {
     let generation = Generation::default();
     let transmission = Transmission::default();
-    let Ok(loss) = Loss::new(generation, transmission, 0) else {
-        return Err(Fail::new("the cap is refused"));
-    };
+    let loss = Loss::new(generation, transmission, 0)?;
     // 10,000,000 centavos over 1,000 kWh are 1,000,000 units per kWh.
     let both = priced(10_000_000, 10_000_000).month()?;
     assert!(rt; generation.is_fit(&both));
@@ -225,9 +220,12 @@ fn windows_of_twelve_months(rt: HostRuntime) -> Result<(), Fail> {
     for (standing, input, substation) in rows {
         assert!(rt; standing <= months.len());
         let total = recent_energy(&months.as_slice()[..standing]);
-        assert_eq!(rt; total.input, input);
-        assert_eq!(rt; total.substation, substation);
-        assert_eq!(rt; total.feeder, 2 * substation);
+        let told = Energy {
+            input,
+            substation,
+            feeder: 2 * substation,
+        };
+        assert_eq!(rt; total, told);
     }
     Ok(())
 }
@@ -368,10 +366,9 @@ fn own_mechanism_beside_the_four(rt: HostRuntime) -> Result<(), Fail> {
 
 #[test]
 fn loss_over_another_price(rt: HostRuntime) -> Result<(), Fail> {
-    let Ok(loss) = Loss::new(Transmission::default(), FlatFee::seven(), 500) else {
-        return Err(Fail::new("the cap is refused"));
+    let schedule = Single {
+        mechanism: Loss::new(Transmission::default(), FlatFee::seven(), 500)?,
     };
-    let schedule = Single { mechanism: loss };
     // U is 84,000,000 / 108,000, rounded down to 777: 10,007 x 777 / 10,000.
     check_answer(
         &rt,

@@ -57,8 +57,8 @@ fn check_file(rt: &HostRuntime, cap: u64, charges: &FourCharges) -> anyhow::Resu
     }
 }
 
-// Ends with status 1 where something is refused or not fit; and where the argument is none, or something cannot be read or written, which
-// is then said on standard error.
+// Ends with status 1 where something is refused or not fit; and where the argument is no number, or something cannot be read or written,
+// which is then said on standard error.
 fn main(rt: HostRuntime) -> anyhow::Result<ExitCode> {
     let cap = cap_argument(&rt)?;
     match FourCharges::new(cap) {

@@ -1,6 +1,5 @@
 -- What the reader finds at a field's head.
 use Rattle.std.proofs.Common.{◌≡◌, ℕ, ◌+◌, ◌-◌, ◌*◌, ◌/◌, ◌%◌, ◌<◌, ◌≤◌, Bool, true, false, cond, eqb, List, ◌∷◌, ◌++◌, length, get_or, take, drop, Some, None, sym, refl, ap, ◌∙◌, subst, add-zero, add_assoc, arith, length-drop, take-append-drop}
-use native.Mathlib.Nat.{sub-zero}
 use Rattle.std.proofs.lemmas.Nat.{div-mul-add, mod-mul-add}
 use Rattle.std.proofs.lemmas.List.{take_rest, drop-drop, drop_more, get_or-drop, length-take-le}
 use Rattle.std.proofs.lemmas.Bool.{le-leb, eq-eqb}
@@ -48,9 +47,9 @@ module _ (bs : List ℕ) (p : ℕ) (d : Due) (whole : 3 ≤ length (rest_at bs p
       pub in_file : p + 3 + n ≤ length bs
       in_file = omega (arith, head_within, ap length (past_is bs p) ∙ length-drop (p + 3) bs)
 
-      pub took : Took bs p (p + 3 + n) d (take (n - 0) (past_head bs p))
+      pub took : Took bs p (p + 3 + n) d (take n (past_head bs p))
       took =
-          let value : take (n - 0) (past_head bs p) ≡ take n (drop (p + 3) bs) = ap (λ k. take k (past_head bs p)) (sub-zero n) ∙ ap (take n) (past_is bs p) in
+          let value : take n (past_head bs p) ≡ take n (drop (p + 3) bs) = ap (take n) (past_is bs p) in
           let long : length (take n (drop (p + 3) bs)) ≡ n = length-take-le n _ (rw length-drop (omega (arith, in_file))) in
           let one = rest_get_or bs p 1 in
           let two = rest_get_or bs p 2 in

@@ -2,8 +2,8 @@
 ghost use Rattle.std.specs.Prelude.{◌≡◌, ◌↔◌, IsTrue};
 ghost use Rattle.fields.specs.Heads.{may, Parts};
 
-// A field's tag, and its length: from `least` to `most` parts of `each` bytes. A tag is a byte here, whatever is headed: the enum of a
-// month file's tags stands above.
+// A field's tag, and its length: from `least` to `most` parts of `each` bytes. A tag is a byte, since any bytes may be
+// headed so; those of a month file are an enum of `month`.
 #[derive(Clone, Copy)]
 pub struct Due {
     pub tag: u8,

@@ -30,6 +30,7 @@ impl<'a> Reader<'a> {
         let [tag, high, low, rest @ ..] = &self.bytes[at..] else {
             return Err(FieldFault::NoHead(at));
         };
+        // Guards, since by `ask` the last two refusals are not proved within half of the search's limits.
         if *tag != due.tag {
             return Err(FieldFault::WrongTag(at));
         }
@@ -41,7 +42,7 @@ impl<'a> Reader<'a> {
             return Err(FieldFault::CutShort(at));
         }
         self.at = at + 3 + size;
-        Ok(&rest[0..size])
+        Ok(&rest[..size])
     }
 
     // The offset of the next byte, unless none is left.

@@ -4,6 +4,7 @@ ghost use Rattle.fields.specs.Questions.{answered, first_no};
 ghost use Rattle.fields.specs.Refusals.{buffer_refusal};
 ghost use Rattle.fields.specs.Room.{room_asked};
 
+use crate::asking::ask;
 use crate::refusal::{Layer, Refusal};
 
 // One size for whatever is written into a lent buffer; the longest month file has 407 bytes.
@@ -31,8 +32,5 @@ pub fn ask_room(buffer: &[u8]) -> Result<(), ShortBuffer>
     ensures { result ≡ answered (first_no (room_asked (length buffer.now))) }
 {
     let length = buffer.len();
-    if length < ROOM {
-        return Err(ShortBuffer { length });
-    }
-    Ok(())
+    ask(ROOM <= length, ShortBuffer { length })
 }

@@ -1,10 +1,11 @@
 -- A test of each element of a list.
-use Rattle.std.specs.Prelude.{◌≡◌, ℕ, ◌+◌, ◌<◌, ◌≤◌, Bool, true, false, ◌&&◌, List, [], ◌∷◌, length, drop, slice_index_or, refl, All}
+use Rattle.std.specs.Prelude.{◌≡◌, ℕ, ◌+◌, ◌<◌, ◌≤◌, Bool, true, false, ◌&&◌, List, length, drop, slice_index_or, All}
 use Rattle.std.specs.List.{list_all}
 use Rattle.std.proofs.Common.{sym, ap, ◌∙◌}
 use Rattle.std.proofs.lemmas.List.{at_drop_more, at_drop_all}
-use Rattle.std.proofs.lemmas.List.Elements.{All-nil, All-cons, All-head, All-tail}
-use Rattle.std.proofs.lemmas.Bool.{and_parts, and_from, and_left}
+use Rattle.std.proofs.lemmas.List.Elements.{All-weaker}
+use Rattle.std.proofs.lemmas.List.Sums.{AllPass-from_list_all, list_all-from_AllPass}
+use Rattle.std.proofs.lemmas.Bool.{and_left}
 
 -- a loop: of the first i elements the answer is yes
 module _ {X : Type 0} (p : X → Bool) (xs : List X) (i : ℕ) (so_far : list_all p xs ≡ list_all p (drop i xs)) where
@@ -20,9 +21,7 @@ module _ {X : Type 0} (p : X → Bool) (xs : List X) (i : ℕ) (so_far : list_al
 -- a test of each element, and the fact that it tells
 module _ {X : Type 0} (p : X → Bool) (P : X → Type 0) where
   pub all_from_every : ((x : X) → p x ≡ true → P x) → (xs : List X) → list_all p xs ≡ true → All P xs
-  all_from_every tells [] e = All-nil P
-  all_from_every tells (x ∷ xs) e = let parts = and_parts (p x) (list_all p xs) e in All-cons P x xs (tells x parts.0) (all_from_every tells xs parts.1)
+  all_from_every tells xs e = All-weaker (λ x. p x ≡ true) P tells xs (AllPass-from_list_all p xs e)
 
   pub every_from_all : ((x : X) → P x → p x ≡ true) → (xs : List X) → All P xs → list_all p xs ≡ true
-  every_from_all tests [] a = refl
-  every_from_all tests (x ∷ xs) a = and_from (p x) (list_all p xs) (tests x (All-head P x xs a)) (every_from_all tests xs (All-tail P x xs a))
+  every_from_all tests xs a = list_all-from_AllPass p xs (All-weaker P (λ x. p x ≡ true) tests xs a)

@@ -1,10 +1,11 @@
 -- Questions 6 to 11 answered yes, and valid figures, are the same.
-use Rattle.std.specs.Prelude.{◌≡◌, ℕ, ◌+◌, ◌*◌, ◌≤◌, Bool, true, false, ◌&&◌, List, [], ◌∷◌, is_some, is_ok, Some, None, Ok, Err, sum_by, Option, Result, MatchResult, nat_le, nat_lt, refl, All}
+use Rattle.std.specs.Prelude.{◌≡◌, ℕ, ◌≤◌, true, false, ◌&&◌, List, [], ◌∷◌, is_some, is_ok, Some, None, Ok, Err, sum_by, Option, Result, MatchResult, nat_le, refl, All}
 use Rattle.std.proofs.Common.{sym, ◌∙◌, arith}
 use Rattle.std.proofs.lemmas.List.Elements.{All-weaker, All-head, All-tail}
 use Rattle.std.proofs.lemmas.Int.{ints}
 use Rattle.std.proofs.lemmas.List.Sums.{sum_by-cons, sum_by-le}
-use Rattle.std.proofs.lemmas.Bool.{and_parts, and_from, leb-true, le-leb, ltb-true, lt-ltb}
+use Rattle.std.proofs.lemmas.Bool.Decides.{nat_tests}
+use Rattle.std.proofs.lemmas.Bool.{leb-true, le-leb}
 use Rattle.bounded.specs.Sizes.{greatest_of_36}
 use Rattle.bounded.proofs.Held.{held_most}
 use Rattle.fields.specs.Questions.{first_no}
@@ -15,8 +16,8 @@ use Rattle.month.specs.declared.parts.Source.{Source}
 use Rattle.month.specs.declared.parts.Bracket.{Bracket}
 use Rattle.month.specs.declared.statement.Statement.{Statement}
 use Rattle.month.specs.declared.within.WithinLimits.{WithinLimits}
-use Rattle.month.specs.Amounts.{cost_of, taken_of, passed_of, kwh_of, sold}
-use Rattle.month.specs.Asked.{centavos_within, kwh_within, million_within, source_within, energy_within, exempt_within, bracket_within, passed_on_within, limits_asked, rules_asked, month_asked}
+use Rattle.month.specs.Amounts.{cost_of, taken_of, passed_of, kwh_of}
+use Rattle.month.specs.Asked.{source_within, energy_within, exempt_within, sales_within, bracket_within, passed_on_within, energy_fits, sales_fit, limits_asked, rules_asked, month_asked}
 use Rattle.month.specs.Bounds.{Bounded}
 use Rattle.month.specs.Energies.{energy_size}
 use Rattle.month.specs.Figures.{Figures, Counted}
@@ -26,83 +27,48 @@ use Rattle.month.specs.Valid.{SourceWithin, BracketWithin, Within, Valid}
 use Rattle.month.specs.View.{figures}
 use Rattle.month.specs.Every.{all_from_every, every_from_all}
 
--- three tests joined
-module _ (x y z : Bool) where
-  three_parts : (x && y && z) ≡ true → (x ≡ true) × (y ≡ true) × (z ≡ true)
-  three_parts e = let two = and_parts (x && y) z e in let one = and_parts x y two.0 in (one.0, one.1, two.1)
-
-  three_from : x ≡ true → y ≡ true → z ≡ true → (x && y && z) ≡ true
-  three_from ex ey ez = and_from (x && y) z (and_from x y ex ey) ez
-
 source_tells : (s : Source) → source_within s ≡ true → SourceWithin s
-source_tells s e =
-    let t = three_parts (centavos_within s.cost) (centavos_within s.taken) (centavos_within s.passed) e in
-    record { cost_most = leb-true _ _ t.0; taken_most = leb-true _ _ t.1; passed_most = leb-true _ _ t.2 }
+source_tells s e = record { cost_most = grind (arith, nat_tests); taken_most = grind (arith, nat_tests); passed_most = grind (arith, nat_tests) }
 
 source_tests : (s : Source) → SourceWithin s → source_within s ≡ true
-source_tests s w = three_from (centavos_within s.cost) (centavos_within s.taken) (centavos_within s.passed) (le-leb _ _ w.cost_most) (le-leb _ _ w.taken_most) (le-leb _ _ w.passed_most)
+source_tests s w = grind (arith, nat_tests)
 
 bracket_tells : (b : Bracket) → bracket_within b ≡ true → BracketWithin b
-bracket_tells b e =
-    let t = three_parts (kwh_within b.kwh) (million_within b.customers) (nat_le b.percent 100) e in
-    record { kwh_most = leb-true _ _ t.0; customers_most = leb-true _ _ t.1; percent_most = leb-true _ _ t.2 }
+bracket_tells b e = record { kwh_most = grind (arith, nat_tests); customers_most = grind (arith, nat_tests); percent_most = grind (arith, nat_tests) }
 
 bracket_tests : (b : Bracket) → BracketWithin b → bracket_within b ≡ true
-bracket_tests b w = three_from (kwh_within b.kwh) (million_within b.customers) (nat_le b.percent 100) (le-leb _ _ w.kwh_most) (le-leb _ _ w.customers_most) (le-leb _ _ w.percent_most)
-
-passed_tells : (s : Source) → passed_on_within s ≡ true → s.passed ≤ s.taken
-passed_tells s e = leb-true _ _ e
-
-passed_tests : (s : Source) → s.passed ≤ s.taken → passed_on_within s ≡ true
-passed_tests s h = le-leb _ _ h
+bracket_tests b w = grind (arith, nat_tests)
 
 module _ (f : Figures) where
   within_from_yes : first_no (limits_asked f) ≡ None → Within f
   within_from_yes e =
       let y = all_yes (limits_asked f) e in
-      let month = and_parts (nat_le 1 f.month) (nat_le f.month 36) y.0 in
-      let rest = y.1.1.1.1 in
-      let five = and_parts (energy_within f.energy) (exempt_within f.exempt) rest.0 in
-      let energy = three_parts (kwh_within f.energy.input) (kwh_within f.energy.substation) (kwh_within f.energy.feeder) five.0 in
-      let exempt = and_parts (kwh_within f.exempt.generation) (kwh_within f.exempt.transmission) five.1 in
-      let sales = three_parts (kwh_within f.sales.nonlifeline) (million_within f.sales.rate) (million_within f.sales.metering) rest.1.1.0 in
+      let month = y.0 in
+      let energy = y.1.1.1.1.0 in
+      let sales = y.1.1.1.1.1.1.0 in
       record {
-        month_least = leb-true _ _ month.0;
-        month_most = leb-true _ _ month.1;
+        month_least = grind (arith, nat_tests);
+        month_most = grind (arith, nat_tests);
         sources = all_from_every source_within SourceWithin source_tells f.sources y.1.0;
         pilferage_most = leb-true _ _ y.1.1.0;
         transmission = source_tells f.transmission y.1.1.1.0;
-        input_most = leb-true _ _ energy.0;
-        substation_most = leb-true _ _ energy.1;
-        feeder_most = leb-true _ _ energy.2;
-        generation_exempt_most = leb-true _ _ exempt.0;
-        transmission_exempt_most = leb-true _ _ exempt.1;
-        brackets = all_from_every bracket_within BracketWithin bracket_tells f.brackets rest.1.0;
-        nonlifeline_most = leb-true _ _ sales.0;
-        rate_most = leb-true _ _ sales.1;
-        metering_most = leb-true _ _ sales.2;
+        input_most = grind (arith, nat_tests);
+        substation_most = grind (arith, nat_tests);
+        feeder_most = grind (arith, nat_tests);
+        generation_exempt_most = grind (arith, nat_tests);
+        transmission_exempt_most = grind (arith, nat_tests);
+        brackets = all_from_every bracket_within BracketWithin bracket_tells f.brackets y.1.1.1.1.1.0;
+        nonlifeline_most = grind (arith, nat_tests);
+        rate_most = grind (arith, nat_tests);
+        metering_most = grind (arith, nat_tests);
       }
 
   yes_from_within : Within f → first_no (limits_asked f) ≡ None
-  yes_from_within w = none_from_yes (limits_asked f) (
-    and_from (nat_le 1 f.month) (nat_le f.month 36) (le-leb _ _ w.month_least) (le-leb _ _ w.month_most),
-    (
-      every_from_all source_within SourceWithin source_tests f.sources w.sources,
-      (
-        le-leb _ _ w.pilferage_most,
-        (
-          source_tests f.transmission w.transmission,
-          (
-            and_from (energy_within f.energy) (exempt_within f.exempt) (three_from (kwh_within f.energy.input) (kwh_within f.energy.substation) (kwh_within f.energy.feeder) (le-leb _ _ w.input_most) (le-leb _ _ w.substation_most) (le-leb _ _ w.feeder_most)) (and_from (kwh_within f.exempt.generation) (kwh_within f.exempt.transmission) (le-leb _ _ w.generation_exempt_most) (le-leb _ _ w.transmission_exempt_most)),
-            (
-              every_from_all bracket_within BracketWithin bracket_tests f.brackets w.brackets,
-              (three_from (kwh_within f.sales.nonlifeline) (million_within f.sales.rate) (million_within f.sales.metering) (le-leb _ _ w.nonlifeline_most) (le-leb _ _ w.rate_most) (le-leb _ _ w.metering_most), tt),
-            ),
-          ),
-        ),
-      ),
-    ),
-  )
+  yes_from_within w =
+      let month : (nat_le 1 f.month && nat_le f.month 36) ≡ true = grind (arith, nat_tests, w.month_least, w.month_most) in
+      let energy : (energy_within f.energy && exempt_within f.exempt) ≡ true = grind (arith, nat_tests, w.input_most, w.substation_most, w.feeder_most, w.generation_exempt_most, w.transmission_exempt_most) in
+      let sales : sales_within f.sales ≡ true = grind (arith, nat_tests, w.nonlifeline_most, w.rate_most, w.metering_most) in
+      none_from_yes (limits_asked f) (month, (every_from_all source_within SourceWithin source_tests f.sources w.sources, (le-leb _ _ w.pilferage_most, (source_tests f.transmission w.transmission, (energy, (every_from_all bracket_within BracketWithin bracket_tests f.brackets w.brackets, (sales, tt)))))))
 
   sources_sum : (g : Source → ℕ) → ((s : Source) → SourceWithin s → g s ≤ 5000000000) → Counted f → Within f → sum_by g f.sources ≤ 40000000000
   sources_sum g small few w = omega (arith, few.few_sources, sum_by-le g 5000000000 f.sources (All-weaker SourceWithin (λ s. g s ≤ 5000000000) small f.sources w.sources))
@@ -129,45 +95,29 @@ module _ (f : Figures) where
   pub valid_from_yes : Counted f → first_no (limits_asked f) ≡ None → first_no (rules_asked f) ≡ None → Valid f
   valid_from_yes few limits rules =
       let y = all_yes (rules_asked f) rules in
-      let rest = y.1.1.1 in
-      let energy = three_parts (nat_le (2 * (f.energy.substation + f.energy.feeder)) f.energy.input) (nat_lt f.exempt.generation f.energy.input) (nat_lt f.exempt.transmission f.energy.input) rest.1.1.0 in
-      let sales = three_parts (nat_le 1 f.sales.nonlifeline) (nat_le (sold f + f.exempt.generation) f.energy.input) (nat_le (sold f + f.exempt.transmission) f.energy.input) rest.1.1.1.0 in
+      let energy = y.1.1.1.1.1.0 in
+      let sales = y.1.1.1.1.1.1.0 in
       record {
         counted = few;
         within = within_from_yes limits;
-        sources_passed = all_from_every passed_on_within (λ s. s.passed ≤ s.taken) passed_tells f.sources y.0;
+        sources_passed = all_from_every passed_on_within (λ s. s.passed ≤ s.taken) (λ s. leb-true _ _) f.sources y.0;
         transmission_passed = leb-true _ _ y.1.0;
         costs_most = leb-true _ _ y.1.1.0;
-        generation_not_negative = omega (arith, ints, leb-true _ _ rest.0);
-        transmission_not_negative = omega (arith, ints, leb-true _ _ rest.1.0);
-        losses = leb-true _ _ energy.0;
-        generation_charged = ltb-true _ _ energy.1;
-        transmission_charged = ltb-true _ _ energy.2;
-        some_sold = leb-true _ _ sales.0;
-        sold_generation = leb-true _ _ sales.1;
-        sold_transmission = leb-true _ _ sales.2;
+        generation_not_negative = omega (arith, ints, leb-true _ _ y.1.1.1.0);
+        transmission_not_negative = omega (arith, ints, leb-true _ _ y.1.1.1.1.0);
+        losses = grind (arith, nat_tests);
+        generation_charged = grind (arith, nat_tests);
+        transmission_charged = grind (arith, nat_tests);
+        some_sold = grind (arith, nat_tests);
+        sold_generation = grind (arith, nat_tests);
+        sold_transmission = grind (arith, nat_tests);
       }
 
   rules_from_valid : Valid f → first_no (rules_asked f) ≡ None
-  rules_from_valid v = none_from_yes (rules_asked f) (
-    every_from_all passed_on_within (λ s. s.passed ≤ s.taken) passed_tests f.sources v.sources_passed,
-    (
-      le-leb _ _ v.transmission_passed,
-      (
-        le-leb _ _ v.costs_most,
-        (
-          le-leb _ _ (omega (arith, ints, v.generation_not_negative)),
-          (
-            le-leb _ _ (omega (arith, ints, v.transmission_not_negative)),
-            (
-              three_from (nat_le (2 * (f.energy.substation + f.energy.feeder)) f.energy.input) (nat_lt f.exempt.generation f.energy.input) (nat_lt f.exempt.transmission f.energy.input) (le-leb _ _ v.losses) (lt-ltb _ _ v.generation_charged) (lt-ltb _ _ v.transmission_charged),
-              (three_from (nat_le 1 f.sales.nonlifeline) (nat_le (sold f + f.exempt.generation) f.energy.input) (nat_le (sold f + f.exempt.transmission) f.energy.input) (le-leb _ _ v.some_sold) (le-leb _ _ v.sold_generation) (le-leb _ _ v.sold_transmission), tt),
-            ),
-          ),
-        ),
-      ),
-    ),
-  )
+  rules_from_valid v =
+      let energy : energy_fits f ≡ true = grind (arith, nat_tests, v.losses, v.generation_charged, v.transmission_charged) in
+      let sales : sales_fit f ≡ true = grind (arith, nat_tests, v.some_sold, v.sold_generation, v.sold_transmission) in
+      none_from_yes (rules_asked f) (every_from_all passed_on_within (λ s. s.passed ≤ s.taken) (λ s. le-leb _ _) f.sources v.sources_passed, (le-leb _ _ v.transmission_passed, (le-leb _ _ v.costs_most, (le-leb _ _ (omega (arith, ints, v.generation_not_negative)), (le-leb _ _ (omega (arith, ints, v.transmission_not_negative)), (energy, (sales, tt)))))))
 
   pub yes_from_valid : Valid f → first_no (month_asked f) ≡ None
   yes_from_valid v = first_no_after (limits_asked f) (rules_asked f) (yes_from_within v.within) ∙ rules_from_valid v

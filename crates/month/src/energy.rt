@@ -33,11 +33,7 @@ impl Adds for Energy {
     ghost exact = { Prim.search rules };
 
     fn zero() -> Energy {
-        Energy {
-            input: 0,
-            substation: 0,
-            feeder: 0,
-        }
+        Energy::default()
     }
 
     fn add(self, other: Energy) -> Energy {

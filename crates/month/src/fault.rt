@@ -7,6 +7,7 @@ ghost use Rattle.month.specs.declared.fault.MonthFault.TheVariants.{File};
 
 use crate::tag::Tag;
 use fields::{FieldFault, Layer, Refusal};
+use std::error::Error;
 use std::fmt;
 
 #[derive(Clone, Copy, Debug, PartialEq, Eq)]
@@ -165,3 +166,7 @@ impl fmt::Display for MonthFault {
         }
     }
 }
+
+impl Error for FileFault {}
+
+impl Error for MonthFault {}

@@ -2,7 +2,7 @@
 
 // What was bought from one supplier, power or transmission, in centavos: its cost, the discount taken on it, and the part of that
 // discount that was passed on.
-#[derive(Clone, Copy, Default)]
+#[derive(Clone, Copy, Debug, Default, PartialEq, Eq)]
 pub struct Source {
     pub cost: u64,
     pub taken: u64,
@@ -10,7 +10,7 @@ pub struct Source {
 }
 
 // Energy in kWh: the input, the sub-transmission and substation loss, and the feeder loss.
-#[derive(Clone, Copy)]
+#[derive(Clone, Copy, Debug, Default, PartialEq, Eq)]
 pub struct Energy {
     pub input: u64,
     pub substation: u64,
@@ -18,14 +18,14 @@ pub struct Energy {
 }
 
 // Input in kWh that is charged no generation, and no transmission.
-#[derive(Clone, Copy)]
+#[derive(Clone, Copy, Debug, Default, PartialEq, Eq)]
 pub struct Exempt {
     pub generation: u64,
     pub transmission: u64,
 }
 
 // A lifeline bracket: its kWh, its customers, and its discount in percent.
-#[derive(Clone, Copy, Default)]
+#[derive(Clone, Copy, Debug, Default, PartialEq, Eq)]
 pub struct Bracket {
     pub kwh: u64,
     pub customers: u64,
@@ -33,7 +33,7 @@ pub struct Bracket {
 }
 
 // The non-lifeline kWh, the full rate per kWh and the metering charge per customer, both in units of a ten-thousandth of a peso.
-#[derive(Clone, Copy)]
+#[derive(Clone, Copy, Debug, Default, PartialEq, Eq)]
 pub struct Sales {
     pub nonlifeline: u64,
     pub rate: u64,

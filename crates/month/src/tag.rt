@@ -4,31 +4,23 @@ ghost use Rattle.month.specs.Tags.{tag_number};
 
 use std::fmt;
 
-// Each is headed by a number of its own: the month by 1, and so on.
+// Each is headed by a number of its own.
 #[derive(Clone, Copy, Debug, PartialEq, Eq)]
 pub enum Tag {
-    Month,
-    Sources,
-    Pilferage,
-    Transmission,
-    Energy,
-    Brackets,
-    Sales,
+    Month = 1,
+    Sources = 2,
+    Pilferage = 3,
+    Transmission = 4,
+    Energy = 5,
+    Brackets = 6,
+    Sales = 7,
 }
 
 impl From<Tag> for u8 {
     ghost from_gives = { λ t n. n ≡ tag_number t };
 
     fn from(tag: Tag) -> u8 {
-        match tag {
-            Tag::Month => 1,
-            Tag::Sources => 2,
-            Tag::Pilferage => 3,
-            Tag::Transmission => 4,
-            Tag::Energy => 5,
-            Tag::Brackets => 6,
-            Tag::Sales => 7,
-        }
+        tag as u8
     }
 }
 

@@ -6,7 +6,7 @@ pub(crate) fn print_prefixes(rt: &HostRuntime, name: &str, file: &[u8]) -> anyho
     let mut run = outcome_of(rt.alloc(), b"")?;
     for length in 1..=file.len() {
         let outcome = outcome_of(rt.alloc(), &file[..length])?;
-        if outcome.as_str() != run.as_str() {
+        if outcome != run {
             println!(rt; "{name} {first}-{} {run}", length - 1)?;
             first = length;
             run = outcome;

@@ -20,9 +20,7 @@ fn refusal_of(file: &[u8]) -> Option<Refusal> {
 
 #[test]
 fn sample_amounts(rt: HostRuntime) -> Result<(), Fail> {
-    let Ok(month) = read_month(SAMPLE) else {
-        return Err(Fail::new("refused"));
-    };
+    let month = read_month(SAMPLE)?;
     assert_eq!(rt; month.statement().month, 1);
     assert_eq!(rt; month.generation_cost(), 5_975_000_000);
     assert_eq!(rt; month.transmission_cost(), 1_200_000_000);
@@ -43,13 +41,9 @@ fn empty_file(rt: HostRuntime) {
 
 #[test]
 fn written_back(rt: HostRuntime) -> Result<(), Fail> {
-    let Ok(month) = read_month(SAMPLE) else {
-        return Err(Fail::new("refused"));
-    };
+    let month = read_month(SAMPLE)?;
     let mut buffer = [7; 1025];
-    let Ok(n) = write_month(&month, &mut buffer) else {
-        return Err(Fail::new("no room"));
-    };
+    let n = write_month(&month, &mut buffer)?;
     assert_eq!(rt; n, 167);
     assert!(rt; &buffer[0..167] == SAMPLE);
     assert!(rt; &buffer[167..] == &[7; 858][..]);
@@ -58,9 +52,7 @@ fn written_back(rt: HostRuntime) -> Result<(), Fail> {
 
 #[test]
 fn short_buffer(rt: HostRuntime) -> Result<(), Fail> {
-    let Ok(month) = read_month(SAMPLE) else {
-        return Err(Fail::new("refused"));
-    };
+    let month = read_month(SAMPLE)?;
     let mut buffer = [7; 1023];
     let Err(fault) = write_month(&month, &mut buffer) else {
         return Err(Fail::new("written"));
@@ -93,9 +85,7 @@ fn field_by_field(rt: HostRuntime) -> Result<(), Fail> {
         most: 65535,
     };
     assert!(rt; reader.next_offset() == Some(0));
-    let Ok(value) = reader.field(any) else {
-        return Err(Fail::new("no field"));
-    };
+    let value = reader.field(any)?;
     assert!(rt; value == b"\xab\xcd".as_slice() && number(value) == Some(43981));
     assert!(rt; reader.next_offset() == Some(5));
     let Err(fault) = reader.field(any) else {

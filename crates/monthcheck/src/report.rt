@@ -1,4 +1,5 @@
-// What a month states, and what follows, a line for each. A function prints lines of one form; the handle goes first, as in std.
+// What a month states, and what follows, a line for each. Handle, name and figure go to each function by themselves: a struct of them would
+// be made for every line.
 use month::{Month, Source, Statement, Units};
 use std::fmt::Display;
 use std::io;

@@ -13,34 +13,16 @@ use Rattle.monthfile.specs.Layout.{source_numbers, energy_numbers, bracket_numbe
 use Rattle.monthfile.proofs.Lengths.{length_entry}
 
 source_same : (x y : Source) → source_numbers x ≡ source_numbers y → x ≡ y
-source_same x y n =
-    let a : x.cost ≡ y.cost = cc in
-    let b : x.taken ≡ y.taken = cc in
-    let d : x.passed ≡ y.passed = cc in
-    λ i. record { cost = a i; taken = b i; passed = d i }
+source_same x y n = grind arith
 
 bracket_same : (x y : Bracket) → bracket_numbers x ≡ bracket_numbers y → x ≡ y
-bracket_same x y n =
-    let a : x.kwh ≡ y.kwh = cc in
-    let b : x.customers ≡ y.customers = cc in
-    let d : x.percent ≡ y.percent = cc in
-    λ i. record { kwh = a i; customers = b i; percent = d i }
+bracket_same x y n = grind arith
 
 sales_same : (x y : Sales) → sales_numbers x ≡ sales_numbers y → x ≡ y
-sales_same x y n =
-    let a : x.nonlifeline ≡ y.nonlifeline = cc in
-    let b : x.rate ≡ y.rate = cc in
-    let d : x.metering ≡ y.metering = cc in
-    λ i. record { nonlifeline = a i; rate = b i; metering = d i }
+sales_same x y n = grind arith
 
 energy_same : (x y : Energy) (v w : Exempt) → energy_numbers x v ≡ energy_numbers y w → (x ≡ y) × (v ≡ w)
-energy_same x y v w n =
-    let a : x.input ≡ y.input = cc in
-    let b : x.substation ≡ y.substation = cc in
-    let d : x.feeder ≡ y.feeder = cc in
-    let g : v.generation ≡ w.generation = cc in
-    let h : v.transmission ≡ w.transmission = cc in
-    (λ i. record { input = a i; substation = b i; feeder = d i }, λ i. record { generation = g i; transmission = h i })
+energy_same x y v w n = (grind arith, grind arith)
 
 -- the seven values, one by one
 module _ {a1 a2 a3 a4 a5 a6 a7 b1 b2 b3 b4 b5 b6 b7 : List ℕ} (e : a1 ∷ a2 ∷ a3 ∷ a4 ∷ a5 ∷ a6 ∷ a7 ∷ [] ≡ b1 ∷ b2 ∷ b3 ∷ b4 ∷ b5 ∷ b6 ∷ b7 ∷ []) where
@@ -58,14 +40,11 @@ module _ {X : Type 0} (numbers : X → List ℕ) (three : (x : X) → length (nu
 pub file_same : (f g : Figures) → file_of f ≡ file_of g → f ≡ g
 file_same f g e =
     let v = seven (fields_same 1 (values f) (values g) refl e) in
-    let m = be_same 1 f.month g.month v.0 in
-    let src = entries_same source_numbers (λ x. refl) source_same f.sources g.sources v.1 in
-    let ps = eights_same (f.pilferage ∷ []) (g.pilferage ∷ []) v.2 in
-    let p : f.pilferage ≡ g.pilferage = cc in
-    let tr = entry_same source_numbers (λ x. refl) source_same f.transmission g.transmission v.3 in
-    let en = energy_same f.energy g.energy f.exempt g.exempt (eights_same (energy_numbers f.energy f.exempt) (energy_numbers g.energy g.exempt) v.4) in
-    let br = entries_same bracket_numbers (λ x. refl) bracket_same f.brackets g.brackets v.5 in
-    let sa = entry_same sales_numbers (λ x. refl) sales_same f.sales g.sales v.6 in
-    let en0 = en.0 in
-    let en1 = en.1 in
-    λ i. record { month = m i; sources = src i; pilferage = p i; transmission = tr i; energy = en0 i; exempt = en1 i; brackets = br i; sales = sa i }
+    let month = be_same 1 f.month g.month v.0 in
+    let sources = entries_same source_numbers (λ x. refl) source_same f.sources g.sources v.1 in
+    let pilferage = eights_same (f.pilferage ∷ []) (g.pilferage ∷ []) v.2 in
+    let transmission = entry_same source_numbers (λ x. refl) source_same f.transmission g.transmission v.3 in
+    let energy = energy_same f.energy g.energy f.exempt g.exempt (eights_same (energy_numbers f.energy f.exempt) (energy_numbers g.energy g.exempt) v.4) in
+    let brackets = entries_same bracket_numbers (λ x. refl) bracket_same f.brackets g.brackets v.5 in
+    let sales = entry_same sales_numbers (λ x. refl) sales_same f.sales g.sales v.6 in
+    grind arith

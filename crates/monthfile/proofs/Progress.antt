@@ -113,29 +113,29 @@ module _ {file : List ℕ} {values : List (List ℕ)} {i : ℕ} {bytes : List �
   parts_at : (k : ℕ) (v : List ℕ) → v ≡ get_or values k [] → k < 7 → Parts (get_or dues k no_due) (length v)
   parts_at k v is h = subst (λ w. Parts (get_or dues k no_due) (length w)) (sym is) (s.parts k (omega arith))
 
-  pub made_of : {m src p t e b l : List ℕ} → m ≡ get_or values 0 [] → src ≡ get_or values 1 [] → p ≡ get_or values 2 [] → t ≡ get_or values 3 [] → e ≡ get_or values 4 [] → b ≡ get_or values 5 [] → l ≡ get_or values 6 [] → MadeOf file m src p t e b l
-  made_of {m} {src} {p} {t} {e} {b} {l} em es ep et ee eb el =
+  pub made_of : {month sources pilferage transmission energy brackets sales : List ℕ} → month ≡ get_or values 0 [] → sources ≡ get_or values 1 [] → pilferage ≡ get_or values 2 [] → transmission ≡ get_or values 3 [] → energy ≡ get_or values 4 [] → brackets ≡ get_or values 5 [] → sales ≡ get_or values 6 [] → MadeOf file month sources pilferage transmission energy brackets sales
+  made_of {month} {sources} {pilferage} {transmission} {energy} {brackets} {sales} is_month is_sources is_pilferage is_transmission is_energy is_brackets is_sales =
       let all = seven_of values s.seven in
-      let same : values ≡ m ∷ src ∷ p ∷ t ∷ e ∷ b ∷ l ∷ [] = cc in
-      let month = parts_at 0 m em (omega arith) in
-      let sources = parts_at 1 src es (omega arith) in
-      let pilferage = parts_at 2 p ep (omega arith) in
-      let transmission = parts_at 3 t et (omega arith) in
-      let energy = parts_at 4 e ee (omega arith) in
-      let brackets = parts_at 5 b eb (omega arith) in
-      let sales = parts_at 6 l el (omega arith) in
+      let same : values ≡ month ∷ sources ∷ pilferage ∷ transmission ∷ energy ∷ brackets ∷ sales ∷ [] = cc in
+      let of_month = parts_at 0 month is_month (omega arith) in
+      let of_sources = parts_at 1 sources is_sources (omega arith) in
+      let of_pilferage = parts_at 2 pilferage is_pilferage (omega arith) in
+      let of_transmission = parts_at 3 transmission is_transmission (omega arith) in
+      let of_energy = parts_at 4 energy is_energy (omega arith) in
+      let of_brackets = parts_at 5 brackets is_brackets (omega arith) in
+      let of_sales = parts_at 6 sales is_sales (omega arith) in
       record {
         whole = all_read s done ends ∙ ap (fields_of 1) same;
-        month_long = omega (arith, month.whole, month.enough, month.few);
-        sources_whole = omega (arith, sources.whole);
-        sources_some = omega (arith, sources.whole, sources.enough);
-        sources_few = omega (arith, sources.whole, sources.few);
-        pilferage_long = omega (arith, pilferage.whole, pilferage.enough, pilferage.few);
-        transmission_long = omega (arith, transmission.whole, transmission.enough, transmission.few);
-        energy_long = omega (arith, energy.whole, energy.enough, energy.few);
-        brackets_whole = omega (arith, brackets.whole);
-        brackets_few = omega (arith, brackets.whole, brackets.few);
-        sales_long = omega (arith, sales.whole, sales.enough, sales.few);
+        month_long = omega (arith, of_month.whole, of_month.enough, of_month.few);
+        sources_whole = omega (arith, of_sources.whole);
+        sources_some = omega (arith, of_sources.whole, of_sources.enough);
+        sources_few = omega (arith, of_sources.whole, of_sources.few);
+        pilferage_long = omega (arith, of_pilferage.whole, of_pilferage.enough, of_pilferage.few);
+        transmission_long = omega (arith, of_transmission.whole, of_transmission.enough, of_transmission.few);
+        energy_long = omega (arith, of_energy.whole, of_energy.enough, of_energy.few);
+        brackets_whole = omega (arith, of_brackets.whole);
+        brackets_few = omega (arith, of_brackets.whole, of_brackets.few);
+        sales_long = omega (arith, of_sales.whole, of_sales.enough, of_sales.few);
       }
 
 -- what stands at k behind a reference

@@ -42,14 +42,10 @@ pub(crate) const SAMPLE: Sketch = Sketch {
 impl Sketch {
     pub(crate) fn month(&self) -> Result<Month, Fail> {
         let mut sources: UpTo<Source, 8> = UpTo::new();
-        let Ok(()) = sources.push(self.source) else {
-            return Err(Fail::new("no room for a source"));
-        };
+        sources.push(self.source)?;
         let mut brackets: UpTo<Bracket, 4> = UpTo::new();
-        let Ok(()) = brackets.push(self.bracket) else {
-            return Err(Fail::new("no room for a bracket"));
-        };
-        let made = Month::new(Statement {
+        brackets.push(self.bracket)?;
+        Ok(Month::new(Statement {
             month: 1,
             sources,
             pilferage: self.pilferage,
@@ -65,10 +61,6 @@ impl Sketch {
             },
             brackets,
             sales: self.sales,
-        });
-        let Ok(month) = made else {
-            return Err(Fail::new("refused"));
-        };
-        Ok(month)
+        })?)
     }
 }

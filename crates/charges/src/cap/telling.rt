@@ -5,6 +5,7 @@ ghost use Rattle.charges.specs.Words.{cap_sentence};
 
 use super::CapTooHigh;
 use fields::{Layer, Refusal};
+use std::error::Error;
 use std::fmt;
 
 impl From<CapTooHigh> for Refusal {
@@ -30,3 +31,5 @@ impl fmt::Display for CapTooHigh {
         )
     }
 }
+
+impl Error for CapTooHigh {}

@@ -21,6 +21,7 @@ impl Month {
     }
 
     // T, the cost of transmission to recover.
+    #[tactic(auto, using(crate::specs::Validity::month_valid))]
     pub fn transmission_cost(&self) -> u64
         ensures is { result ≡ transmission_cost (figures self.now) }
         ensures formula { pos result ≡ transmission_formula (figures self.now) }
@@ -33,6 +34,7 @@ impl Month {
     }
 
     // S, all kWh sold.
+    #[tactic(auto, using(crate::specs::Validity::month_valid))]
     pub fn sales(&self) -> u64
         ensures is { result ≡ sold (figures self.now) }
         ensures least { 1 ≤ result }

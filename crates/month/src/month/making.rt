@@ -21,6 +21,7 @@ impl Month {
     }
 
     // What the month states: its figures are valid.
+    #[tactic(auto, using(crate::specs::Validity::month_valid))]
     pub fn statement(&self) -> &Statement
         ensures is { result.now ≡ self.now.within.statement }
         ensures valid { Valid (stated result.now) }

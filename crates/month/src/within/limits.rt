@@ -81,7 +81,7 @@ impl Statement {
     fn month_within(&self) -> bool
         ensures { result ≡ (nat_le 1 self.now.month && nat_le self.now.month 36) }
     {
-        1 <= self.month && self.month <= MAX_MONTH
+        (1..=MAX_MONTH).contains(&self.month)
     }
 
     fn energy_within(&self) -> bool

@@ -22,6 +22,7 @@ impl Source {
     }
 }
 
+// By itself, so that the questions after it have its answer as one fact.
 fn all_pass_on_within(sources: &[Source]) -> bool
     ensures { result ≡ list_all passed_on_within sources.now }
 {
@@ -56,7 +57,6 @@ impl WithinLimits {
     {
         let sources = self.statement.sources.as_slice();
         let transmission = self.statement.transmission;
-        let bought = self.bought();
         ask(
             all_pass_on_within(sources),
             PassedOnAboveTaken(Tag::Sources),
@@ -65,6 +65,7 @@ impl WithinLimits {
             transmission.passes_on_within(),
             PassedOnAboveTaken(Tag::Transmission),
         )?;
+        let bought = self.bought();
         ask(bought.cost <= MAX_CENTAVOS, CostsTooHigh(Tag::Sources))?;
         let generation = bought.recoverable(self.statement.pilferage);
         ask(generation.is_some(), CostBelowZero(Tag::Sources))?;

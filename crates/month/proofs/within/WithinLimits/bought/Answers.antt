@@ -1,47 +1,31 @@
-use Rattle.std.proofs.Common.{◌∙◌, arith}
+use Rattle.std.proofs.Common.{◌≡◌, ℕ, ◌+◌, ◌<◌, ◌≤◌, List, length, get_or, take, sum_by, ap, ◌∙◌, arith}
+use Rattle.std.proofs.lemmas.List.{take_all}
+use Rattle.std.proofs.lemmas.List.Sums.{sum_by_more_le}
 use Rattle.month.specs.Amounts.{cost_of, taken_of, passed_of}
 use Rattle.month.specs.declared.parts.Source.{Source}
 use Rattle.month.specs.Validity.{within_bounded}
-use Rattle.month.proofs.Running.{running, ended}
+use Rattle.month.proofs.Blank.{no_source}
 use Rattle.month.proofs.within.WithinLimits.bought.Goals as goal
 
-abbrev none : Source
-none = record { cost = 0; taken = 0; passed = 0 }
+-- one source more, of a list that is known to be ys
+more : (part : Source → ℕ) (xs ys : List Source) (i : ℕ) → xs ≡ ys → i < length xs → sum_by part (take i xs) + part (get_or xs i no_source) ≤ sum_by part ys
+more part xs ys i is h = omega (arith, sum_by_more_le part xs i no_source h, ap (sum_by part) is)
 
 pub overflow_add-cost : goal.overflow_add-cost
-overflow_add-cost c =
-    let s = running cost_of c.as_slice-source-items.result.now _ c.loop-source.source-index none c.as_slice-source-items.ensures.value c.loop-source-test.true in
-    omega (arith, (within_bounded c.args.self.now).costs)
+overflow_add-cost c = omega (arith, (within_bounded c.args.self.now).costs, more cost_of _ _ _ c.as_slice-source-items.ensures.value c.loop-source-test.true)
 
 pub overflow_add-taken : goal.overflow_add-taken
-overflow_add-taken c =
-    let s = running taken_of c.as_slice-source-items.result.now _ c.loop-source.source-index none c.as_slice-source-items.ensures.value c.loop-source-test.true in
-    omega (arith, (within_bounded c.args.self.now).taken)
+overflow_add-taken c = omega (arith, (within_bounded c.args.self.now).taken, more taken_of _ _ _ c.as_slice-source-items.ensures.value c.loop-source-test.true)
 
 pub overflow_add-passed : goal.overflow_add-passed
-overflow_add-passed c =
-    let s = running passed_of c.as_slice-source-items.result.now _ c.loop-source.source-index none c.as_slice-source-items.ensures.value c.loop-source-test.true in
-    omega (arith, (within_bounded c.args.self.now).passed)
+overflow_add-passed c = omega (arith, (within_bounded c.args.self.now).passed, more passed_of _ _ _ c.as_slice-source-items.ensures.value c.loop-source-test.true)
 
-pub loop-source-preserved : goal.loop-source-preserved
-loop-source-preserved c =
-    let xs = c.as_slice-source-items.result.now in
-    let e = c.as_slice-source-items.ensures.value in
-    let i = c.loop-source.source-index in
-    let h = c.loop-source-test.true in
-    (omega (arith, running cost_of xs _ i none e h), omega (arith, running taken_of xs _ i none e h), omega (arith, running passed_of xs _ i none e h))
-
-pub returns : goal.returns
-returns c =
-    let xs = c.as_slice-source-items.result.now in
-    let e = c.as_slice-source-items.ensures.value in
-    let i = c.loop-source.source-index in
-    let h = c.loop-source-test.false in
-    let cost = c.loop-source.invariant.0 ∙ ended cost_of xs _ i e h in
-    let taken = c.loop-source.invariant.1 ∙ ended taken_of xs _ i e h in
-    let passed = c.loop-source.invariant.2 ∙ ended passed_of xs _ i e h in
+pub returns-clause-bounded : goal.returns-clause-bounded
+returns-clause-bounded c =
     let most = within_bounded c.args.self.now in
+    let whole = take_all c.loop-source.source-index c.as_slice-source-items.result.now c.loop-source-test.false ∙ c.as_slice-source-items.ensures.value in
     record {
-      is = λ j. record { cost = cost j; taken = taken j; passed = passed j };
-      bounded = record { cost = omega arith; taken = omega arith; passed = omega arith };
+      cost = omega (arith, c.loop-source.invariant.0, ap (sum_by cost_of) whole);
+      taken = omega (arith, c.loop-source.invariant.1, ap (sum_by taken_of) whole);
+      passed = omega (arith, c.loop-source.invariant.2, ap (sum_by passed_of) whole);
     }
