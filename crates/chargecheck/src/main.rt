@@ -16,7 +16,7 @@ use std::{env, io};
 // The cap on the feeder loss where no argument gives one, in hundredths of a percent.
 const USUAL_CAP: u64 = 500;
 
-// The first argument, where there is one.
+// The cap that the only argument gives, or the usual one without an argument.
 fn cap_argument(rt: &HostRuntime) -> anyhow::Result<u64> {
     let mut words = env::args(rt)?.skip(1);
     let Some(word) = words.next() else {
@@ -57,8 +57,8 @@ fn check_file(rt: &HostRuntime, cap: u64, charges: &FourCharges) -> anyhow::Resu
     }
 }
 
-// Ends with status 1 where something is refused or not fit; and where the argument is no number, or something cannot be read or written,
-// which is then said on standard error.
+// Ends with status 1 where something is refused or not fit; and where the argument is no number or not the only one, or something cannot
+// be read or written, which is then said on standard error.
 fn main(rt: HostRuntime) -> anyhow::Result<ExitCode> {
     let cap = cap_argument(&rt)?;
     match FourCharges::new(cap) {

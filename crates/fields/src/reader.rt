@@ -30,7 +30,7 @@ impl<'a> Reader<'a> {
         let [tag, high, low, rest @ ..] = &self.bytes[at..] else {
             return Err(FieldFault::NoHead(at));
         };
-        // Guards, since by `ask` the last two refusals are not proved within half of the search's limits.
+        // Guards and not `ask`, through which the last two refusals are at the edge of what the proof search finds.
         if *tag != due.tag {
             return Err(FieldFault::WrongTag(at));
         }

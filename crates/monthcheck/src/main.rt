@@ -9,7 +9,7 @@ use monthfile::read_month;
 use std::io::Read;
 use std::process::ExitCode;
 
-// Ends with status 1 where the file is refused, and where it cannot be read, which is then said on standard error.
+// Ends with status 1 where the file is refused, and where something cannot be read or written, which is then said on standard error.
 fn main(rt: HostRuntime) -> anyhow::Result<ExitCode> {
     let mut file = Vec::new(rt.alloc());
     rt.stdin().read_to_end(&mut file)?;

@@ -7,11 +7,11 @@ ghost use Rattle.schedule.specs.Rows.{numbered, told};
 use month::Month;
 
 // A row of mechanisms, each lawful. It is asked only for its numbers up to 7: beyond them nothing is promised, and a type for such numbers
-// would ask more of callers. They are numbers and no enum, since any two rows may be joined.
+// would ask more of callers. Mechanisms are told by number and not by an enum, since any two rows may be joined.
 pub trait Schedule {
     ghost meaning: { Self → List Meaning };
 
-    // How many mechanisms there are; 9 tells any count above 8.
+    // How many mechanisms there are; 9 tells any count above 8, as the rules do.
     fn count(&self) -> usize
         ensures { result ≡ told (length (meaning self.now)) };
 
