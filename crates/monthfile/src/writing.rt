@@ -34,7 +34,7 @@ fn append(file: &mut FileBytes, bytes: &[u8])
 fn put_field<const K: usize, E: Entry<K>>(file: &mut FileBytes, tag: Tag, entries: &[E])
     requires { array_vec_len file.old + 3 + 8 * (K * length entries.now) ≤ LONGEST }
     ensures longer { array_vec_len file.new ≡ array_vec_len file.old + 3 + 8 * (K * length entries.now) }
-    ensures field { file.new.items ≡ file.old.items ++ field_of (tag_number tag) (flat_map (bytes_by E.numbers) entries.now) }
+    ensures appended { file.new.items ≡ file.old.items ++ field_of (tag_number tag) (flat_map (bytes_by E.numbers) entries.now) }
 {
     append(file, &head(u8::from(tag), 8 * (K * entries.len()) as u16));
     for entry in entries {

@@ -15,7 +15,7 @@ const HALF: u64 = 50;
 impl Source {
     // In units: the cost less what was recovered, and less half the discount that was kept; nothing where that is below zero.
     pub(crate) fn recoverable(&self, recovered: u64) -> Option<u64>
-        requires bought { BoundedSource self.now }
+        requires bounded { BoundedSource self.now }
         requires recovered { recovered ≤ 5000000000 }
         ensures some { is_some result ≡ nat_le (credits self.now recovered) (gross self.now) }
         ensures is { IfSome result (λ n. n ≡ gross self.now - credits self.now recovered) }
