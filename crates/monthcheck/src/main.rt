@@ -1,27 +1,30 @@
-// Reads one month file from standard input and prints what it states and what follows from it, or why it is refused.
+// Reads one month file from standard input and prints what it states, what follows from it and what the four charges come to, or why it is
+// refused.
 #![tactic(auto)]
 
+mod answers;
+mod cap;
+mod check;
 mod report;
+#[cfg(test)]
+mod tests;
 
-use crate::report::print_month;
-use fields::Refusal;
-use monthfile::read_month;
+use crate::cap::cap_of;
+use crate::check::check;
+use std::env;
 use std::io::Read;
 use std::process::ExitCode;
 
-// Ends with status 1 where the file is refused, and where something cannot be read or written, which is then said on standard error.
+// Ends with status 1 where something is refused or not fit; and where the argument is no number or not the only one, or something cannot
+// be read or written, which is then said on standard error.
 fn main(rt: HostRuntime) -> anyhow::Result<ExitCode> {
+    let words = env::args(&rt)?.skip(1).collect::<Vec<String>>(rt.alloc())?;
+    let cap = cap_of(words.as_slice())?;
     let mut file = Vec::new(rt.alloc());
     rt.stdin().read_to_end(&mut file)?;
-    match read_month(file.as_slice()) {
-        Ok(month) => {
-            print_month(&rt, &month)?;
-            Ok(ExitCode::SUCCESS)
-        }
-        Err(fault) => {
-            rt.println(Refusal::from(fault))?;
-            rt.println(fault)?;
-            Ok(ExitCode::FAILURE)
-        }
+    if check(&mut rt.stdout(), cap, file.as_slice())? {
+        Ok(ExitCode::SUCCESS)
+    } else {
+        Ok(ExitCode::FAILURE)
     }
 }

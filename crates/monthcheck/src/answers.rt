@@ -2,6 +2,7 @@
 use month::{Month, Units};
 use schedule::{FourCharges, Schedule};
 use std::io;
+use std::io::Write;
 
 // The charges' names, by number: a schedule knows its charges by number alone.
 const NAMES: [&str; 4] = ["generation", "transmission", "loss", "lifeline"];
@@ -11,7 +12,7 @@ pub(crate) fn all_fit(charges: &FourCharges, month: &Month) -> bool {
 }
 
 pub(crate) fn print_answers(
-    rt: &impl Print,
+    out: &mut impl Write,
     charges: &FourCharges,
     month: &Month,
 ) -> io::Result<()> {
@@ -20,11 +21,12 @@ pub(crate) fn print_answers(
             let quantity = charges.quantity(number, month);
             let (rate, allowance) = charges.assess(number, &[*month]);
             let allowance = Units(allowance);
-            println!(rt;
-                "charge {number}, {name}: quantity {quantity} kWh, base rate {rate} units per kWh, allowance: {allowance}"
+            writeln!(
+                out,
+                "charge {number}, {name}: quantity {quantity} kWh, base rate {rate} units per kWh, allowance {allowance}"
             )?;
         } else {
-            println!(rt; "charge {number}, {name}: the month is not fit")?;
+            writeln!(out, "charge {number}, {name}: the month is not fit")?;
         }
     }
     Ok(())

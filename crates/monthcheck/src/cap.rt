@@ -1,0 +1,16 @@
+// The cap on the feeder loss, which no month file states.
+use anyhow::{Context, bail};
+
+// Where no argument gives one, in hundredths of a percent.
+const USUAL_CAP: u64 = 500;
+
+// The cap that the arguments give: one number, or none for the usual cap.
+pub(crate) fn cap_of(words: &[String]) -> anyhow::Result<u64> {
+    match words {
+        [] => Ok(USUAL_CAP),
+        [word] => word.as_str().parse().context(
+            "the argument is the feeder loss cap, in hundredths of a percent",
+        ),
+        _ => bail!("more than one argument"),
+    }
+}
