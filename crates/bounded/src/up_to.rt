@@ -6,7 +6,7 @@ use std::alloc::AllocError;
 mod lists;
 
 // The first `len` items count; what stands past them is never looked at. It is no `ArrayVec` of the kit, which cannot be copied, and
-// contracts see it through `held`: an `impl Model` of a `Copy` struct has to give all fields back from the list.
+// contracts see it through `held`: an `impl Model` of a `Copy` struct has to give every field back from the list, and what stands past `len` is not in it.
 #[derive(Copy)]
 pub struct UpTo<T, const N: usize> {
     items: [T; N],

@@ -122,8 +122,8 @@ fn priced(generation: u64, transmission: u64) -> Sketch {
 
 #[test]
 fn price_at_its_limit(rt: HostRuntime) -> Result<(), Fail> {
-    let generation = Generation::default();
-    let transmission = Transmission::default();
+    let generation = Generation::new();
+    let transmission = Transmission::new();
     let loss = Loss::new(generation, transmission, 0)?;
     // 10,000,000 centavos over 1,000 kWh are 1,000,000 units per kWh.
     let both = priced(10_000_000, 10_000_000).month()?;
@@ -367,7 +367,7 @@ fn own_mechanism_beside_the_four(rt: HostRuntime) -> Result<(), Fail> {
 #[test]
 fn loss_over_another_price(rt: HostRuntime) -> Result<(), Fail> {
     let schedule = Single {
-        mechanism: Loss::new(Transmission::default(), FlatFee::seven(), 500)?,
+        mechanism: Loss::new(Transmission::new(), FlatFee::seven(), 500)?,
     };
     // U is 84,000,000 / 108,000, rounded down to 777: 10,007 x 777 / 10,000.
     check_answer(

@@ -1,5 +1,5 @@
 -- Input and losses of the latest twelve months.
-use Rattle.std.specs.Prelude.{◌≡◌, ℕ, ◌+◌, ◌-◌, ◌*◌, ◌/◌, ◌≤◌, min, List, [], ◌∷◌, map, length, fold, sum_by, slice_index_or, All}
+use Rattle.std.specs.Prelude.{◌≡◌, ℕ, ◌+◌, ◌-◌, ◌*◌, ◌≤◌, min, List, [], ◌∷◌, map, length, fold, slice_index_or, All}
 use Rattle.std.proofs.Common.{◌∙◌, arith}
 use Rattle.std.proofs.lemmas.Grind.{common_steps}
 use Rattle.std.proofs.lemmas.Nat.{div_below}
@@ -14,18 +14,14 @@ use Rattle.month.specs.Figures.{Figures}
 use Rattle.month.specs.Valid.{Valid}
 use Rattle.month.specs.View.{figures}
 use Rattle.month.specs.Validity.{month_valid}
-use Rattle.charges.specs.Formulas.{twelve_months, gross_up}
+use Rattle.charges.specs.Formulas.{energy_totals, twelve_months, gross_up}
 
--- each of the three numbers adds up by itself
-abbrev totals : List Figures → Energy
-totals ms = record { input = sum_by (λ m. m.energy.input) ms; substation = sum_by (λ m. m.energy.substation) ms; feeder = sum_by (λ m. m.energy.feeder) ms }
-
-energies_total : (z : Energy) (ms : List Month) → fold added z (map (λ m. (figures m).energy) ms) ≡ added z (totals (map figures ms))
-energies_total z [] = grind arith
-energies_total z (m ∷ ms) = energies_total (added z (figures m).energy) ms ∙ grind (arith, common_steps)
+folded_energy : (z : Energy) (ms : List Month) → fold added z (map (λ m. (figures m).energy) ms) ≡ added z (energy_totals (map figures ms))
+folded_energy z [] = grind arith
+folded_energy z (m ∷ ms) = folded_energy (added z (figures m).energy) ms ∙ grind (arith, common_steps)
 
 pub twelve_total : (ms : List Month) → fold added no_energy (map (λ m. (figures m).energy) (latest 12 ms)) ≡ twelve_months (map figures ms)
-twelve_total ms = energies_total no_energy (latest 12 ms) ∙ grind (arith, latest_map figures 12 ms)
+twelve_total ms = folded_energy no_energy (latest 12 ms) ∙ grind (arith, latest_map figures 12 ms)
 
 -- what n months of energy keep: at most half the input is lost, and each month has some
 pub record Kept (n : ℕ) (e : Energy) : Type 0 where
@@ -33,7 +29,7 @@ pub record Kept (n : ℕ) (e : Energy) : Type 0 where
   pub least : n ≤ e.input
   pub most : e.input ≤ 10000000 * n
 
-totals_kept : (ms : List Figures) → All Valid ms → Kept (length ms) (totals ms)
+totals_kept : (ms : List Figures) → All Valid ms → Kept (length ms) (energy_totals ms)
 totals_kept [] a = record { losses = omega arith; least = omega arith; most = omega arith }
 totals_kept (m ∷ ms) a =
     let v = All-head Valid m ms a in
@@ -51,10 +47,6 @@ pub recent_kept : (ms : List Month) → Kept (min 12 (length ms)) (fold added no
 recent_kept ms =
     let few : length (latest 12 (map figures ms)) ≡ min 12 (length ms) = omega (arith, latest_length 12 (map figures ms), length-map ms figures) in
     rw (twelve_total ms, ← few) (twelve_kept (map figures ms) (months_valid ms))
-
--- by the feeder loss that is charged
-pub gross_up_is : (cap : ℕ) (e : Energy) (feeder : ℕ) → feeder ≡ min (10000 * e.feeder) (cap * e.input) → (10000 * e.substation + feeder) / (e.input - e.substation - e.feeder) ≡ gross_up cap e
-gross_up_is cap e feeder is = rw is
 
 pub gross_up_most : (cap : ℕ) (e : Energy) → 2 * (e.substation + e.feeder) ≤ e.input → 1 ≤ e.input → gross_up cap e ≤ 10000
 gross_up_most cap e losses some = grind (arith, div_below)

@@ -32,13 +32,13 @@ transmission_rate m = transmission_cost m / transmission_divisor m
 abbrev pub transmission_allowance : Figures → ℕ
 transmission_allowance m = transmission_cost m * sold m / transmission_divisor m
 
+-- the totals of I, A and F, each by itself
+abbrev pub energy_totals : List Figures → Energy
+energy_totals ms = record { input = sum_by (λ m. m.energy.input) ms; substation = sum_by (λ m. m.energy.substation) ms; feeder = sum_by (λ m. m.energy.feeder) ms }
+
 -- I12, A12 and F12: the totals over the latest twelve months, or over fewer when fewer stand
 abbrev pub twelve_months : List Figures → Energy
-twelve_months ms = record {
-  input = sum_by (λ m. m.energy.input) (latest 12 ms);
-  substation = sum_by (λ m. m.energy.substation) (latest 12 ms);
-  feeder = sum_by (λ m. m.energy.feeder) (latest 12 ms);
-}
+twelve_months ms = energy_totals (latest 12 ms)
 
 -- U of Formula 3 in ten-thousandths, by the feeder loss cap C in hundredths of a percent: ⌊(10000 × A12 + min(10000 × F12, C × I12)) / (I12 − A12 − F12)⌋
 abbrev pub gross_up : ℕ → Energy → ℕ

@@ -1,5 +1,5 @@
 -- The last of the months.
-use Rattle.std.specs.Prelude.{◌≡◌, ℕ, ◌-◌, true, false, List, [], ◌∷◌, ◌++◌, map, length, take, nat_lt, slice_index_or, refl}
+use Rattle.std.specs.Prelude.{◌≡◌, ℕ, ◌-◌, true, List, [], ◌∷◌, ◌++◌, map, length, take, nat_lt, slice_index_or, refl}
 use Rattle.std.proofs.Common.{arith}
 use Rattle.std.proofs.lemmas.Grind.{common_steps}
 use Rattle.std.proofs.lemmas.List.Elements.{All-contains, Contains-push}
@@ -26,6 +26,3 @@ module _ (ms : List Month) where
 
   pub with_last : (answer : Figures → ℕ × ℕ) (m : Month) → true ≡ nat_lt 0 (length ms) → m ≡ slice_index_or ms (length ms - 1) m → for_last answer (map figures ms) ≡ answer (figures m)
   with_last answer m h e = simp (ends_in m h e, last_answered)
-
-  pub with_none : (answer : Figures → ℕ × ℕ) → false ≡ nat_lt 0 (length ms) → (0, 0) ≡ for_last answer (map figures ms)
-  with_none answer h = grind (arith, common_steps)

@@ -1,10 +1,12 @@
--- A purchase at its average cost keeps the law of a mechanism, and that of a price.
-use Rattle.std.proofs.Common.{◌≡◌, arith, rules}
+-- A purchase at its average cost keeps the law of a mechanism, and that of a price; the lifeline charge keeps the law of a mechanism.
+use Rattle.std.proofs.Common.{◌≡◌, div-mul-le_self, arith, rules}
+use Rattle.std.proofs.Math.Nat.{lt-div-mul-add}
 use Rattle.std.specs.Prelude.{ℕ, ◌/◌, ◌<◌, ◌≤◌}
-use Rattle.month.specs.Amounts.{sold}
+use Rattle.month.specs.Amounts.{generation_cost, transmission_cost, sold, discount}
 use Rattle.month.specs.Figures.{Figures}
 use Rattle.month.specs.Valid.{Valid}
-use Rattle.charges.specs.Charges.{averaged, average_cost}
+use Rattle.charges.specs.Charges.{averaged, average_cost, generation, transmission, lifeline}
+use Rattle.charges.specs.Formulas.{generation_divisor, transmission_divisor}
 use Rattle.charges.specs.Meaning.{Lawful, LawfulAnswer, LawfulPrice, IsPrice}
 use Rattle.charges.specs.Averages.{average_covered, average_tight}
 use Rattle.charges.specs.Last.{last_answered, last_fit}
@@ -28,3 +30,21 @@ module _ (cost divisor : Figures → ℕ) where
   -- the average is a price, whatever fit months stand before
   pub average_price : (m : Figures) (r : ℕ) → r ≡ cost m / divisor m → IsPrice (average_cost cost divisor) m r
   average_price m r is = record { alone = is; base_rate = λ before fit. rw last_answered is; limit = λ fit. search rules }
+
+pub generation_lawful : Lawful generation
+generation_lawful = average_lawful generation_cost generation_divisor (search rules)
+
+pub transmission_lawful : Lawful transmission
+transmission_lawful = average_lawful transmission_cost transmission_divisor (search rules)
+
+pub lifeline_lawful : Lawful lifeline
+lifeline_lawful before m fit =
+    let known = last_fit lifeline before m fit in
+    let v = known.0 in
+    rw last_answered (record {
+      least = v.some_sold;
+      most = v.within.nonlifeline_most;
+      rate_limit = grind arith;
+      covered = div-mul-le_self (discount m) m.sales.nonlifeline;
+      tight = omega (arith, lt-div-mul-add {a = discount m} v.some_sold);
+    })

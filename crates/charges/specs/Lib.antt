@@ -1,7 +1,6 @@
 pub mod Assessed
 pub mod Averages
 pub mod Charges
-pub mod ChargesLemmas
 pub mod Energies
 pub mod Formulas
 pub mod Last

@@ -8,7 +8,7 @@ pub record Meaning : Type 0 where
   pub fit : Figures → Bool
   -- what a month is billed on
   pub quantity : Figures → ℕ
-  -- of the last of the months that stand: the base rate, which is its own rate, and the allowance, which is what may be recovered for it
+  -- of the last of the months that stand: the base rate, which is that month's own rate, and the allowance, which is what may be recovered for it
   pub assessed : List Figures → ℕ × ℕ
 
 -- valid months, all of them fit
@@ -31,7 +31,8 @@ Lawful k = (before : List Figures) (m : Figures) → FitMonths k (before ++ m �
 abbrev pub price_of : Meaning → Figures → ℕ
 price_of k m = (k.assessed (m ∷ [])).0
 
--- r is the price of the month m: the base rate, whatever fit months stand before, and within its limit where m is fit
+-- r is the price of the month m: the base rate of m standing alone, whether it is fit or not, and of m as the last of fit months, whichever they are; and within its limit where
+-- m is fit
 pub record IsPrice (k : Meaning) (m : Figures) (r : ℕ) : Type 0 where
   pub alone : r ≡ price_of k m
   pub base_rate : (before : List Figures) → FitMonths k (before ++ m ∷ []) → r ≡ (k.assessed (before ++ m ∷ [])).0

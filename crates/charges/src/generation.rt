@@ -1,16 +1,29 @@
 // Charge 0, generation.
+ghost use Rattle.std.specs.Prelude.{◌≡◌};
 ghost use Rattle.month.specs.Amounts.{generation_cost};
+ghost use Rattle.charges.specs.Charges.{generation};
 ghost use Rattle.charges.specs.Formulas.{generation_divisor};
 ghost use Rattle.std.proofs.Common.{rules};
 
 use crate::average_cost::AverageCost;
+use crate::mechanism::Mechanism;
 use crate::purchase::Purchase;
 use month::Month;
 
 pub type Generation = AverageCost<PowerSupply>;
 
+impl Generation {
+    pub fn new() -> Generation
+        ensures { ⟦<Generation as Mechanism>⟧.meaning result ≡ generation }
+    {
+        AverageCost {
+            purchase: PowerSupply,
+        }
+    }
+}
+
 // The power bought, borne by the input but for what is charged no generation.
-#[derive(Clone, Copy, Default)]
+#[derive(Clone, Copy)]
 pub struct PowerSupply;
 
 impl Purchase for PowerSupply {
@@ -18,7 +31,7 @@ impl Purchase for PowerSupply {
 
     ghost divisor = { λ _. generation_divisor };
 
-    ghost some = { Prim.search rules };
+    ghost least = { Prim.search rules };
 
     fn cost(&self, month: &Month) -> u64 {
         month.generation_cost()

@@ -1,12 +1,12 @@
 // Charge 3, the lifeline subsidy: what lifeline customers are let off falls on the others' kWh.
 ghost use Rattle.charges.specs.Charges.{lifeline};
-ghost use Rattle.charges.specs.ChargesLemmas.{lifeline_lawful};
+ghost use Rattle.charges.specs.Laws.{lifeline_lawful};
 
 use crate::limits::MAX_FIT_RATE;
 use crate::mechanism::Mechanism;
 use month::Month;
 
-#[derive(Clone, Copy, Default)]
+#[derive(Clone, Copy)]
 pub struct Lifeline;
 
 impl Mechanism for Lifeline {

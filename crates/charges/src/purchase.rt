@@ -12,7 +12,6 @@ pub trait Purchase {
 
     ghost divisor: { Self → Figures → ℕ };
 
-    // Its bound stands at each function that works a cost out: a type of its own would be taken apart at each use.
     fn cost(&self, month: &Month) -> u64
         ensures is { result ≡ cost self.now (figures month.now) }
         ensures most { result ≤ 500000000000 };
@@ -21,5 +20,5 @@ pub trait Purchase {
         ensures is { result ≡ divisor self.now (figures month.now) }
         ensures least { 1 ≤ result };
 
-    ghost some: { (p : Self) (m : Figures) → Valid m → 1 ≤ divisor p m };
+    ghost least: { (p : Self) (m : Figures) → Valid m → 1 ≤ divisor p m };
 }

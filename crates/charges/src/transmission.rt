@@ -1,16 +1,29 @@
 // Charge 1, transmission.
+ghost use Rattle.std.specs.Prelude.{◌≡◌};
 ghost use Rattle.month.specs.Amounts.{transmission_cost};
+ghost use Rattle.charges.specs.Charges.{transmission};
 ghost use Rattle.charges.specs.Formulas.{transmission_divisor};
 ghost use Rattle.std.proofs.Common.{rules};
 
 use crate::average_cost::AverageCost;
+use crate::mechanism::Mechanism;
 use crate::purchase::Purchase;
 use month::Month;
 
 pub type Transmission = AverageCost<TransmissionService>;
 
+impl Transmission {
+    pub fn new() -> Transmission
+        ensures { ⟦<Transmission as Mechanism>⟧.meaning result ≡ transmission }
+    {
+        AverageCost {
+            purchase: TransmissionService,
+        }
+    }
+}
+
 // The transmission bought, borne by the input but for what is charged no transmission.
-#[derive(Clone, Copy, Default)]
+#[derive(Clone, Copy)]
 pub struct TransmissionService;
 
 impl Purchase for TransmissionService {
@@ -18,7 +31,7 @@ impl Purchase for TransmissionService {
 
     ghost divisor = { λ _. transmission_divisor };
 
-    ghost some = { Prim.search rules };
+    ghost least = { Prim.search rules };
 
     fn cost(&self, month: &Month) -> u64 {
         month.transmission_cost()

@@ -26,9 +26,9 @@ impl Adds for Energy {
 
     ghost neutral = { Prim.search rules };
 
-    ghost nothing = { Prim.search rules };
+    ghost zero_size = { Prim.search rules };
 
-    ghost together = { Prim.search rules };
+    ghost sum_size = { Prim.search rules };
 
     ghost exact = { Prim.search rules };
 

@@ -6,12 +6,12 @@ ghost use Rattle.schedule.specs.Rows.{numbered, told};
 
 use month::Month;
 
-// A row of mechanisms, each lawful. It is asked only for its numbers up to 7: beyond them nothing is promised, and a type for such numbers
-// would ask more of callers. Mechanisms are told by number and not by an enum, since any two rows may be joined.
+// A row of mechanisms, each lawful, told by number and not by an enum, since any two rows may be joined. It is asked only for numbers up to
+// 7: for greater ones nothing is promised. A number up to 7 that names no mechanism is answered as `no_mechanism`.
 pub trait Schedule {
     ghost meaning: { Self → List Meaning };
 
-    // How many mechanisms there are; 9 tells any count above 8, as the rules do.
+    // How many mechanisms there are; 9 tells any count above 8.
     fn count(&self) -> usize
         ensures { result ≡ told (length (meaning self.now)) };
 

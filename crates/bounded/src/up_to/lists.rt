@@ -27,8 +27,7 @@ impl<T: Copy, const N: usize> UpTo<T, N> {
         ensures value { result.now ≡ held self.now }
         ensures most { length result.now ≤ N }
     {
-        let all = &self.items[..];
-        &all[0..self.len]
+        &self.items[..self.len]
     }
 
     // One value more at the end; a full list hands it back.

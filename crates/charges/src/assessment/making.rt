@@ -4,16 +4,16 @@ ghost use Rattle.charges.specs.Meaning.{LawfulAnswer};
 ghost use Rattle.charges.specs.Assessed.{allowance_of, allowance_small};
 
 use super::Assessment;
-use crate::limits::MAX_ANSWER;
+use crate::limits::{MAX_BASE_RATE, MAX_QUANTITY};
 use bounded::Carries;
 
 impl Assessment {
-    // None where the answer breaks the law, which no fit month's does.
+    // None where the answer breaks the law; where all months that stand are fit, no answer does.
     pub fn new(quantity: u64, answer: (u64, u64)) -> Option<Assessment>
         ensures { MatchOption result (¬ LawfulAnswer quantity answer) (λ a. (a.quantity ≡ quantity) × (a.rate ≡ answer.0) × (a.allowance ≡ answer.1)) }
     {
         let (rate, allowance) = answer;
-        if !(1..=MAX_ANSWER).contains(&quantity) || rate > MAX_ANSWER {
+        if !(1..=MAX_QUANTITY).contains(&quantity) || rate > MAX_BASE_RATE {
             return None;
         }
         // What the allowance has above the quantity at the base rate.
