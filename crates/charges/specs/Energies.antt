@@ -36,7 +36,7 @@ totals_kept (m ∷ ms) a =
     let rest = totals_kept ms (All-tail Valid m ms a) in
     record { losses = grind (arith, common_steps); least = grind (arith, common_steps); most = grind (arith, common_steps, v.within.input_most) }
 
-pub months_valid : (ms : List Month) → All Valid (map figures ms)
+months_valid : (ms : List Month) → All Valid (map figures ms)
 months_valid ms = All-map Valid figures ms (λ k m h. month_valid (slice_index_or ms k m))
 
 pub twelve_kept : (ms : List Figures) → All Valid ms → Kept (length (latest 12 ms)) (twelve_months ms)

@@ -13,7 +13,7 @@ use crate::priced::Priced;
 use crate::recent::recent_energy;
 use month::Month;
 
-// The two mechanisms whose prices are charged for what is lost, and the cap on the feeder loss.
+// The two mechanisms whose prices are charged for what is lost, named for those of the resolution, and the cap on the feeder loss.
 #[derive(Drop)]
 pub struct Loss<G, T> {
     generation: G,
@@ -52,7 +52,7 @@ fn gross_up(cap: Cap, months: &[Month]) -> u64
 impl<G: Priced, T: Priced> Mechanism for Loss<G, T> {
     ghost meaning = { λ s. loss (G.Mechanism.meaning s.generation) (T.Mechanism.meaning s.transmission) s.cap.hundredths };
 
-    ghost lawful = { λ l. loss_lawful (G.Mechanism.meaning l.generation) (T.Mechanism.meaning l.transmission) (G.Priced.priced l.generation) (T.Priced.priced l.transmission) l.cap.hundredths };
+    ghost lawful = { λ s. loss_lawful (G.Mechanism.meaning s.generation) (T.Mechanism.meaning s.transmission) (G.Priced.priced s.generation) (T.Priced.priced s.transmission) s.cap.hundredths };
 
     fn is_fit(&self, month: &Month) -> bool {
         self.generation.is_fit(month) && self.transmission.is_fit(month)

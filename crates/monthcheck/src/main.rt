@@ -15,8 +15,8 @@ use std::env;
 use std::io::Read;
 use std::process::ExitCode;
 
-// Ends with status 1 where something is refused or not fit; and where the argument is no number or not the only one, or something cannot
-// be read or written, which is then said on standard error.
+// Ends with status 1 where something is refused or not fit. It does so too, and says it on standard error, where the argument is no such
+// number or not the only one, or where something cannot be read or written.
 fn main(rt: HostRuntime) -> anyhow::Result<ExitCode> {
     let words = env::args(&rt)?.skip(1).collect::<Vec<String>>(rt.alloc())?;
     let cap = cap_of(words.as_slice())?;

@@ -1,7 +1,7 @@
-// What is printed where something is refused or not fit, and what the arguments are read as. What is printed for a good file is in `stdout`.
+// What is printed where something is refused or not fit, with another cap and without room, and what the arguments are read as. What is
+// printed for the good file without an argument is in `stdout`.
 use crate::cap::cap_of;
 use crate::check::check;
-use std::io;
 use std::test::Fail;
 
 // The file `samples/good.month`; its source's cost is at byte 8.
@@ -95,7 +95,10 @@ fn no_room_to_print(rt: HostRuntime) -> Result<(), Fail> {
 fn arguments(rt: HostRuntime) -> Result<(), Fail> {
     let heap = rt.alloc();
     assert!(rt; cap_of(&[])? == 500);
-    assert!(rt; cap_of(&[String::from_str(heap, "450")?])? == 450);
+    for word in ["450", "00450", "+450"] {
+        let words = [String::from_str(heap, word)?];
+        assert!(rt; cap_of(&words)? == 450, "with {word}");
+    }
     for word in ["", "-1", "4.5", "18446744073709551616"] {
         let words = [String::from_str(heap, word)?];
         assert!(rt; cap_of(&words).is_err(), "with {word}");

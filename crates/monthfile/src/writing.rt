@@ -2,7 +2,7 @@
 ghost use Rattle.std.specs.Prelude.{◌≡◌, ◌+◌, ◌*◌, ◌≤◌, ◌++◌, length, IfOk, MatchResult};
 ghost use Rattle.std.specs.List.{flat_map};
 ghost use Rattle.arrayvec.specs.ArrayVec.{array_vec_len};
-ghost use Rattle.fields.specs.Bytes.{be, eights, field_of};
+ghost use Rattle.fields.specs.Bytes.{field_of};
 ghost use Rattle.month.specs.Stated.{stated};
 ghost use Rattle.month.specs.Tags.{tag_number};
 ghost use Rattle.month.specs.View.{figures};

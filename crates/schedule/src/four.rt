@@ -10,7 +10,7 @@ ghost use Rattle.charges.specs.Losses.{loss_of_both_lawful};
 use crate::joined::Joined;
 use crate::schedule::Schedule;
 use crate::single::Single;
-use charges::{CapTooHigh, Generation, Lifeline, Loss, Mechanism, Transmission};
+use charges::{CapTooHigh, Generation, Lifeline, Loss, Transmission};
 use month::Month;
 
 type Purchases = Joined<Single<Generation>, Single<Transmission>>;
@@ -28,23 +28,27 @@ impl FourCharges {
     pub fn new(cap: u64) -> Result<FourCharges, CapTooHigh>
         ensures { MatchResult result (λ s. (cap ≤ 5000) × (⟦<FourCharges as Schedule>⟧.meaning s ≡ four_charges cap)) (λ e. NotMade cap e) }
     {
-        let loss = Loss::new(Generation::new(), Transmission::new(), cap)?;
+        let generation = Generation::new();
+        let transmission = Transmission::new();
+        let loss = Loss::new(generation, transmission, cap)?;
+        let purchases = Joined {
+            first: Single {
+                mechanism: generation,
+            },
+            second: Single {
+                mechanism: transmission,
+            },
+        };
+        let loss_and_lifeline = Joined {
+            first: Single { mechanism: loss },
+            second: Single {
+                mechanism: Lifeline,
+            },
+        };
         Ok(FourCharges {
             row: Joined {
-                first: Joined {
-                    first: Single {
-                        mechanism: Generation::new(),
-                    },
-                    second: Single {
-                        mechanism: Transmission::new(),
-                    },
-                },
-                second: Joined {
-                    first: Single { mechanism: loss },
-                    second: Single {
-                        mechanism: Lifeline,
-                    },
-                },
+                first: purchases,
+                second: loss_and_lifeline,
             },
         })
     }

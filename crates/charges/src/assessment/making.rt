@@ -8,7 +8,7 @@ use crate::limits::{MAX_BASE_RATE, MAX_QUANTITY};
 use bounded::Carries;
 
 impl Assessment {
-    // None where the answer breaks the law; where all months that stand are fit, no answer does.
+    // None where the answer breaks the law, as no mechanism's does where all months that stand are fit.
     pub fn new(quantity: u64, answer: (u64, u64)) -> Option<Assessment>
         ensures { MatchOption result (¬ LawfulAnswer quantity answer) (λ a. (a.quantity ≡ quantity) × (a.rate ≡ answer.0) × (a.allowance ≡ answer.1)) }
     {
