@@ -26,7 +26,7 @@ pub(crate) fn averaged(cost: u64, divisor: u64, quantity: u64) -> (u64, u64)
 impl<P: Purchase> Mechanism for AverageCost<P> {
     ghost meaning = { λ s. average_cost (P.Purchase.cost s.purchase) (P.Purchase.divisor s.purchase) };
 
-    ghost lawful = { λ s. average_lawful (P.Purchase.cost s.purchase) (P.Purchase.divisor s.purchase) (P.Purchase.least s.purchase) };
+    ghost lawful = { λ s. average_lawful (P.Purchase.cost s.purchase) (P.Purchase.divisor s.purchase) (P.Purchase.divisor_least s.purchase) };
 
     fn is_fit(&self, month: &Month) -> bool {
         self.price(month) <= MAX_FIT_RATE

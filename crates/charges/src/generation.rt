@@ -31,7 +31,7 @@ impl Purchase for PowerSupply {
 
     ghost divisor = { λ _. generation_divisor };
 
-    ghost least = { Prim.search rules };
+    ghost divisor_least = { Prim.search rules };
 
     fn cost(&self, month: &Month) -> u64 {
         month.generation_cost()

@@ -20,5 +20,5 @@ pub trait Purchase {
         ensures is { result ≡ divisor self.now (figures month.now) }
         ensures least { 1 ≤ result };
 
-    ghost least: { (p : Self) (m : Figures) → Valid m → 1 ≤ divisor p m };
+    ghost divisor_least: { (p : Self) (m : Figures) → Valid m → 1 ≤ divisor p m };
 }

@@ -31,7 +31,7 @@ impl Purchase for TransmissionService {
 
     ghost divisor = { λ _. transmission_divisor };
 
-    ghost least = { Prim.search rules };
+    ghost divisor_least = { Prim.search rules };
 
     fn cost(&self, month: &Month) -> u64 {
         month.transmission_cost()
