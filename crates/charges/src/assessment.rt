@@ -7,7 +7,7 @@ mod making;
 #[derive(Clone, Copy)]
 pub struct Assessment {
     pub quantity: u64,
-    pub rate: u64,
-    pub allowance: u64,
-    ghost lawful: { LawfulAnswer quantity (rate, allowance) },
+    // The base rate and the allowance, as the mechanism answered them.
+    pub answer: (u64, u64),
+    ghost lawful: { LawfulAnswer quantity answer },
 }

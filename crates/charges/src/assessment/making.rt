@@ -10,7 +10,7 @@ use bounded::Carries;
 impl Assessment {
     // None where the answer breaks the law, as no mechanism's does where all months that stand are fit.
     pub fn new(quantity: u64, answer: (u64, u64)) -> Option<Assessment>
-        ensures { MatchOption result (¬ LawfulAnswer quantity answer) (λ a. (a.quantity ≡ quantity) × (a.rate ≡ answer.0) × (a.allowance ≡ answer.1)) }
+        ensures { MatchOption result (¬ LawfulAnswer quantity answer) (λ a. (a.quantity ≡ quantity) × (a.answer ≡ answer)) }
     {
         let (rate, allowance) = answer;
         if !(1..=MAX_QUANTITY).contains(&quantity) || rate > MAX_BASE_RATE {
@@ -21,11 +21,17 @@ impl Assessment {
         if above >= quantity {
             return None;
         }
-        Some(Assessment {
-            quantity,
-            rate,
-            allowance,
-        })
+        Some(Assessment { quantity, answer })
+    }
+}
+
+// A quantity of 1, with nothing to recover for it: what fills the unused places of a list.
+impl Default for Assessment {
+    fn default() -> Assessment {
+        Assessment {
+            quantity: 1,
+            answer: (0, 0),
+        }
     }
 }
 
@@ -35,6 +41,7 @@ impl Carries<u64> for Assessment {
     ghost small = { allowance_small };
 
     fn figure(&self) -> u64 {
-        self.allowance
+        let (_, allowance) = self.answer;
+        allowance
     }
 }

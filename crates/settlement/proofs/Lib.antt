@@ -1,0 +1,5 @@
+pub mod Assessed
+pub mod Balances
+pub mod Numbers
+pub mod Settled
+pub mod Taken

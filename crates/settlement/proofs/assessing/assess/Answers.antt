@@ -1,0 +1,8 @@
+use Rattle.schedule.specs.Rows.{numbered}
+use Rattle.settlement.proofs.Assessed.{last_assessed}
+use Rattle.settlement.proofs.assessing.assess.Goals as goal
+
+pub returns : goal.returns
+returns g c = λ small.
+    let k = numbered (g.S.Schedule.meaning c.args.schedule.now) c.args.number in
+    last_assessed k c.args.months.now c.in_ok-month.month.now c.in_ok-month.ensures.value _ _ (c.quantity-quantity.ensures small) (c.assess.ensures small) c.new.result c.new.ensures

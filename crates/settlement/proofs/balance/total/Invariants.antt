@@ -1,0 +1,12 @@
+use Rattle.std.proofs.Common.{◌≡◌, ◌*◌, ◌≤◌, map, nat_abs}
+use Rattle.month.specs.View.{figures}
+use Rattle.settlement.specs.Answers.{units_of}
+use Rattle.settlement.specs.Bounds.{greatest_outstanding}
+use Rattle.settlement.proofs.Balances.{total_so_far}
+use Rattle.settlement.proofs.balance.total.Given as goal
+
+abbrev pub invariant-loop-number : goal.invariant-loop-number
+invariant-loop-number g l = record {
+  so_far : l.total ≡ total_so_far (g.S.Schedule.meaning l.schedule) (map (λ o. o.units) l.opening-items) (map figures l.months) (map units_of l.bills) l.number;
+  size : nat_abs l.total ≤ l.number * greatest_outstanding;
+}

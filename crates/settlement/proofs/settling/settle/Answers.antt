@@ -1,0 +1,8 @@
+use Rattle.settlement.specs.Answers.{left_by}
+use Rattle.settlement.proofs.Settled.{settled_from_positions}
+use Rattle.settlement.proofs.settling.settle.Goals as goal
+
+pub returns : goal.returns
+returns g c =
+    let closing = c.close-closing.ensures in
+    rw (← c.is_barred.ensures) (settled_from_positions _ _ _ _ _ c.in_ok-positions.ensures _ (left_by c.args.before) _ _ closing.total closing.revenue c.standing_after-standing.ensures c.announce-rates.ensures)

@@ -1,0 +1,10 @@
+pub mod Answers
+pub mod Bands
+pub mod Bounds
+pub mod Corrections
+pub mod Months
+pub mod Numbers
+pub mod Positions
+pub mod Rules
+pub mod Standings
+pub mod Words
