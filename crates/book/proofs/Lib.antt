@@ -1,0 +1,11 @@
+pub mod Added
+pub mod Admitted
+pub mod Asking
+pub mod Counted
+pub mod Fits
+pub mod Marks
+pub mod OfMonth
+pub mod Opens
+pub mod Settles
+pub mod Told
+pub mod Written

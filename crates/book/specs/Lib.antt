@@ -1,0 +1,12 @@
+pub mod Account
+pub mod Duties
+pub mod Entering
+pub mod Opening
+pub mod Places
+pub mod Reading
+pub mod Reconciled
+pub mod Refusals
+pub mod Sound
+pub mod Tally
+pub mod Words
+pub mod Writing

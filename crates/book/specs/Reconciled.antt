@@ -1,0 +1,70 @@
+-- A book agrees with the tally of some postings, as it does with that of the files that it accepted.
+use Rattle.std.specs.Prelude.{◌≡◌, ℕ, ◌+◌, ◌-◌, ◌≤◌, Bool, false, not, List, [], ◌∷◌, ◌++◌, map, length, take, fold, All, Option, Some, None}
+use Rattle.charges.specs.Meaning.{Meaning}
+use Rattle.month.specs.Valid.{Valid}
+use Rattle.monthfile.specs.Layout.{file_of}
+use Rattle.settlement.specs.Answers.{settled, closing_now, left_by}
+use Rattle.settlement.specs.Bands.{band}
+use Rattle.settlement.specs.Corrections.{is_filed}
+use Rattle.settlement.specs.Standings.{judged}
+use Rattle.settlement.specs.declared.record.Closing.{Closing}
+use Rattle.settlement.specs.declared.record.Mark.{Mark}
+use Rattle.settlement.specs.declared.record.Record.{Record}
+use Rattle.settlement.specs.declared.standing.Standing.{Standing}
+use Rattle.settlement.specs.declared.standing.Standing.TheVariants.{Steady}
+use Rattle.book.specs.Account.{Account}
+use Rattle.book.specs.Opening.{OpeningNumbers}
+use Rattle.book.specs.Places.{of_month}
+use Rattle.book.specs.Tally.{Kind, Posting, Tally, posted, tally}
+use Rattle.book.specs.Tally.Kind.{Entry, Amendment}
+
+-- the standing that months leave which closed with these figures, the oldest first
+abbrev pub standing_left : List Closing → Standing
+standing_left closings = fold (λ standing c. judged standing (band c.total c.revenue)) Steady closings
+
+abbrev pub not_filed : Option Mark → Bool
+not_filed None = false
+not_filed (Some mark) = not (is_filed mark)
+
+-- of n standing months: an entry is of the one after them, an amendment of one of them
+abbrev pub Placed : Kind → ℕ → ℕ → Type 0
+Placed Entry month n = month ≡ n + 1
+Placed Amendment month n = (1 ≤ month) × (month ≤ n)
+
+-- the figures of a posting are valid and have their place after these months, each of which has a mark in it, and its answer settles the months that
+-- then stand. Which marks a book has, and when they change, is said where files are entered and filed; here they are taken as read
+pub record ByRule (row : List Meaning) (o : OpeningNumbers) (before : Tally) (p : Posting) : Type 0 where
+  pub valid : Valid p.stated
+  pub placed : Placed p.kind p.stated.month (length before.months)
+  pub marks : length p.marks ≡ length before.months
+  pub answer :
+      let after : Tally = posted before p in
+      let n : ℕ = length after.months in
+      p.answer ≡ settled row o.spread o.balances after.months after.billed (standing_left (take (n - 1) after.closings)) (not_filed (of_month p.marks (n - 1)))
+
+abbrev pub closings_of : Account → List Closing
+closings_of a = map (λ (r : Record). r.closing) a.records
+
+-- what a book holds, as a tally
+abbrev pub tally_of : Account → Tally
+tally_of a = record { months = a.months; billed = a.billed; closings = closings_of a; announced = a.announced }
+
+-- the book is where the postings, the oldest first, lead from the opening
+pub record Reconciled (row : List Meaning) (o : OpeningNumbers) (ps : List Posting) (a : Account) : Type 0 where
+  pub spread : a.spread ≡ o.spread
+  pub balances : a.balances ≡ o.balances
+  -- a starting rate and an opening balance for each mechanism
+  pub mechanisms : (length o.rates ≡ length row) × (length o.balances ≡ length row)
+  pub recorded : length a.records ≡ length a.months
+  pub counted : tally_of a ≡ tally o ps
+  -- each standing is the one that the closing figures up to it leave
+  pub standings : (n : ℕ) → n ≤ length a.records → left_by (of_month a.records n) ≡ standing_left (take n (closings_of a))
+  -- the last month's closing figures are those of the months as they now stand
+  pub closed : (before : List Record) (r : Record) → a.records ≡ before ++ r ∷ [] → r.closing ≡ closing_now row a.balances a.months a.billed
+  -- each file states the figures that were counted, and each answer was given by the rules
+  pub files : All (λ p. p.file ≡ file_of p.stated) ps
+  pub by_rule : (earlier : List Posting) (p : Posting) (later : List Posting) → ps ≡ earlier ++ p ∷ later → ByRule row o (tally o earlier) p
+
+abbrev pub BookReconciled : List Meaning → OpeningNumbers → List Posting → Option Account → Type 0
+BookReconciled row o ps None = ⊥
+BookReconciled row o ps (Some a) = Reconciled row o ps a

@@ -1,0 +1,150 @@
+// Entering a month.
+ghost use Rattle.std.specs.Prelude.{◌≡◌, ◌<◌, [], ◌∷◌, ◌++◌, List, map, length, None, IfOk, OnErr, MatchOption, MatchResult, IsOk};
+ghost use Rattle.fields.specs.Questions.{first_no};
+ghost use Rattle.month.specs.Figures.{Figures};
+ghost use Rattle.month.specs.Valid.{Valid};
+ghost use Rattle.month.specs.View.{figures};
+ghost use Rattle.monthfile.specs.Layout.{file_of};
+ghost use Rattle.monthfile.specs.Reading.{Accepted};
+ghost use Rattle.settlement.specs.Answers.{answered, opening_units, Lawfully};
+ghost use Rattle.book.specs.Account.{Account, account_of, marks_told};
+ghost use Rattle.book.specs.Duties.{duty_asked};
+ghost use Rattle.book.specs.Entering.{Entered, EntryRefused, AnswersTo, Adds, entry_asked, answer_to};
+ghost use Rattle.book.specs.Opening.{OpeningNumbers};
+ghost use Rattle.book.specs.Reconciled.{BookReconciled};
+ghost use Rattle.book.specs.Tally.{Posting, entry};
+
+use super::asking::ask_fit;
+use super::{Book, MOST_MONTHS};
+use crate::duty::Duty;
+use crate::fault::BookFault;
+use crate::opened::Opened;
+use crate::places::of_month;
+use bounded::UpTo;
+use fields::ask;
+use month::Month;
+use monthfile::read_month;
+use schedule::Schedule;
+use settlement::{Answer, Mark, Rates, Record, settle};
+
+// The answer to entering the month after those that stand; None where it cannot be settled, as never happens where all are fit.
+fn settle_with<S: Schedule>(
+    schedule: &S,
+    opened: &Opened,
+    months: &[Month],
+    billed: &[Rates],
+    records: &[Record],
+    month: Month,
+) -> Option<Answer>
+    ensures { length months.now < 36 → length billed.now < 36 → MatchOption result
+        (¬ Lawfully (S.Schedule.meaning schedule.now) (length (opening_units opened.now.terms.balances))
+        (map figures months.now ++ figures month ∷ []))
+        (λ a. answered a ≡ answer_to (S.Schedule.meaning schedule.now) (account_of opened.now months.now billed.now records.now) (figures month)) }
+{
+    let months: UpTo<Month, MOST_MONTHS> = UpTo::of_slice_and(months, month)?;
+    let billed: UpTo<Rates, MOST_MONTHS> = UpTo::of_slice_and(billed, opened.announced)?;
+    settle(
+        schedule,
+        &opened.terms,
+        months.as_slice(),
+        billed.as_slice(),
+        of_month(records, records.len()),
+    )
+}
+
+impl<S: Schedule> Book<S> {
+    // Enters the next month by its file. The lent answer then has the rates announced for the month after it, its closing figures and the standing;
+    // the month's filing is due, and the duty is handed out.
+    pub fn enter(&mut self, file: &[u8], answer: &mut Answer) -> Result<Duty, BookFault>
+        ensures schedule { self.new.schedule ≡ self.old.schedule }
+        ensures cases { MatchResult result
+            (λ duty. Entered (S.Schedule.meaning self.old.schedule) self.old.account self.new.account file.now (answered answer.new) duty)
+            (λ e. EntryRefused (S.Schedule.meaning self.old.schedule) self.old.account file.now e) }
+        // The file of a valid month, of which questions 12 and 13 are answered yes, is accepted.
+        ensures accepts { (m : Figures) → Valid m → file.now ≡ file_of m
+            → first_no (entry_asked (S.Schedule.meaning self.old.schedule) self.old.account m) ≡ None → IsOk result }
+        ensures refused { OnErr result ((self.new ≡ self.old) × (answer.new ≡ answer.old)) }
+        // Filing would not refuse the duty now.
+        ensures owed { IfOk result (λ duty. first_no (duty_asked self.new.account duty) ≡ None) }
+        // A book that agrees with a tally agrees with it afterwards, with this file counted where it was accepted.
+        ensures reconciled { (o : OpeningNumbers) (ps : List Posting) → BookReconciled (S.Schedule.meaning self.old.schedule) o ps self.old.account
+            → MatchResult result
+            (λ _. (m : Figures) → file.now ≡ file_of m → BookReconciled (S.Schedule.meaning self.old.schedule) o
+            (ps ++ entry file.now m (marks_told self.old.account) (answered answer.new) ∷ []) self.new.account)
+            (λ _. BookReconciled (S.Schedule.meaning self.old.schedule) o ps self.new.account) }
+    {
+        let month = self.admit(file)?;
+        let settled = self.answer_to(&month);
+        let duty = self.add(month, &settled);
+        *answer = settled;
+        Ok(duty)
+    }
+
+    // The month that the file states, where questions 1 to 13 are answered yes.
+    #[tactic(auto, using(crate::proofs::Admitted::no_month, crate::proofs::Admitted::not_next, crate::proofs::Admitted::not_fit))]
+    fn admit(&self, file: &[u8]) -> Result<Month, BookFault>
+        ensures { MatchResult result
+            (λ m. Accepted file.now m × (first_no (entry_asked (S.Schedule.meaning self.now.schedule) self.now.account (figures m)) ≡ None))
+            (λ e. EntryRefused (S.Schedule.meaning self.now.schedule) self.now.account file.now e) }
+    {
+        let month = read_month(file)?;
+        let number = month.statement().month;
+        let Some(opened) = self.opened else {
+            return Err(BookFault::WrongMonth(number));
+        };
+        ask(
+            usize::from(number) == self.months.len() + 1,
+            BookFault::WrongMonth(number),
+        )?;
+        ask_fit(&self.schedule, opened.terms.balances.len(), &month)?;
+        Ok(month)
+    }
+
+    // What entering the month would answer; nothing changes.
+    fn answer_to(&self, month: &Month) -> Answer
+        requires { first_no (entry_asked (S.Schedule.meaning self.now.schedule) self.now.account (figures month.now)) ≡ None }
+        ensures { AnswersTo (S.Schedule.meaning self.now.schedule) self.now.account (figures month.now) (answered result) }
+    {
+        let Some(opened) = self.opened else {
+            unreachable()
+        };
+        let Some(answer) = settle_with(
+            &self.schedule,
+            &opened,
+            self.months.as_slice(),
+            self.billed.as_slice(),
+            self.records.as_slice(),
+            *month,
+        ) else {
+            unreachable()
+        };
+        answer
+    }
+
+    // Adds the month with its answer, and hands out its duty.
+    fn add(&mut self, month: Month, answer: &Answer) -> Duty
+        requires { first_no (entry_asked (S.Schedule.meaning self.old.schedule) self.old.account (figures month)) ≡ None }
+        ensures schedule { self.new.schedule ≡ self.old.schedule }
+        ensures added { Adds self.old.account self.new.account (figures month) (answered answer.now) result }
+        ensures owed { first_no (duty_asked self.new.account result) ≡ None }
+    {
+        let Some(opened) = self.opened else {
+            unreachable()
+        };
+        self.months.push_reserved(month);
+        self.billed.push_reserved(opened.announced);
+        self.records.push_reserved(Record {
+            closing: answer.closing,
+            mark: Mark::Pending,
+            standing: answer.standing,
+        });
+        self.opened = Some(Opened {
+            announced: answer.rates,
+            ..opened
+        });
+        Duty {
+            book: opened.number,
+            month: month.statement().month,
+        }
+    }
+}
