@@ -5,14 +5,13 @@ use Rattle.std.proofs.lemmas.Bool.{cond-true}
 use Rattle.std.proofs.lemmas.Option.{slice_get-map, slice_get_past}
 use Rattle.std.specs.Option.{option_map}
 use Rattle.bounded.specs.declared.up_to.UpTo.{UpTo}
-use Rattle.fields.specs.Room.{room_asked}
+use Rattle.fields.specs.Room.{room_asked, Wrote, Short}
 use Rattle.fields.specs.declared.room.ShortBuffer.{ShortBuffer}
 use Rattle.fields.proofs.Asked.{carried_none, carried_some}
 use Rattle.month.specs.Validity.{month_valid}
 use Rattle.month.specs.View.{figures}
 use Rattle.month.specs.declared.month.Month.{Month}
 use Rattle.monthfile.specs.Layout.{file_of}
-use Rattle.monthfile.specs.Writing.{Wrote, Short}
 use Rattle.settlement.specs.declared.amounts.Rate.{Rate}
 use Rattle.settlement.specs.declared.record.Record.{Record}
 use Rattle.book.specs.Account.{Account, held_by}

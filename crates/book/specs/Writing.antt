@@ -1,10 +1,10 @@
 -- What writing a month may leave.
 use Rattle.std.specs.Prelude.{◌≡◌, ℕ, List, length, Option, Some, None}
 use Rattle.fields.specs.Questions.{first_no, carried}
+use Rattle.fields.specs.Room.{Wrote}
 use Rattle.month.specs.Figures.{Figures}
 use Rattle.month.specs.Valid.{Valid}
 use Rattle.monthfile.specs.Layout.{file_of}
-use Rattle.monthfile.specs.Writing.{Wrote}
 use Rattle.book.specs.Account.{Account}
 use Rattle.book.specs.Reading.{month_told, write_asked}
 use Rattle.book.specs.Refusals.{book_refusal}

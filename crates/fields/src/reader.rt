@@ -1,5 +1,5 @@
 // Reads headed bytes in place, field after field.
-ghost use Rattle.std.specs.Prelude.{◌≡◌, ◌≤◌, length, MatchResult};
+ghost use Rattle.std.specs.Prelude.{◌≡◌, ◌≤◌, length, slice_get, MatchResult};
 ghost use Rattle.fields.specs.Heads.{Took, Stopped, next_offset};
 
 use crate::due::Due;
@@ -43,6 +43,13 @@ impl<'a> Reader<'a> {
         }
         self.at = at + 3 + size;
         Ok(&rest[..size])
+    }
+
+    // The byte where the next field's tag is due, unless none is left.
+    pub fn next_tag(&self) -> Option<u8>
+        ensures { result ≡ slice_get self.now.bytes.now self.now.at }
+    {
+        self.bytes.get(self.at).copied()
     }
 
     // The offset of the next byte, unless none is left.

@@ -1,5 +1,5 @@
 // What is told of a refusal.
-ghost use Rattle.std.specs.Prelude.{Some};
+ghost use Rattle.std.specs.Prelude.{◌≡◌, Some};
 ghost use Rattle.fields.specs.Words.{layer_word, refusal_words};
 
 use std::fmt;
@@ -21,15 +21,24 @@ pub struct Refusal {
     pub place: usize,
 }
 
+impl Layer {
+    // As it is printed.
+    pub fn word(self) -> &'static str
+        ensures { result.now ≡ layer_word self }
+    {
+        match self {
+            Layer::File => "file",
+            Layer::Month => "month",
+            Layer::Book => "book",
+        }
+    }
+}
+
 impl fmt::Display for Layer {
     ghost output = { λ l. Some (layer_word l) };
 
     fn fmt<W: fmt::Write>(&self, f: &mut fmt::Formatter<W>) -> fmt::Result {
-        match *self {
-            Layer::File => f.write_str("file"),
-            Layer::Month => f.write_str("month"),
-            Layer::Book => f.write_str("book"),
-        }
+        f.write_str(self.word())
     }
 }
 

@@ -2,12 +2,12 @@
 ghost use Rattle.std.specs.Prelude.{◌≡◌, ◌*◌, ◌%◌, ◌^◌, ◌<◌, ◌≤◌, length};
 ghost use Rattle.std.specs.List.{flat_map};
 ghost use Rattle.bounded.specs.View.{held};
-ghost use Rattle.fields.specs.Bytes.{be, eights};
+ghost use Rattle.fields.specs.Bytes.{be};
 ghost use Rattle.monthfile.specs.Layout.{bytes_by};
 
 use crate::entry::Entry;
 use bounded::UpTo;
-use fields::number;
+use fields::{number, numbers_in};
 
 // The number that a part is.
 fn number_in(part: &[u8]) -> u64
@@ -27,25 +27,15 @@ pub(crate) fn read_month_number(part: &[u8]) -> u16
     number_in(part) as u16
 }
 
-// The numbers of eight bytes that a part is.
-fn numbers_in<const K: usize>(part: &[u8]) -> [u64; K]
-    requires { length part.now ≡ 8 * K }
-    ensures { part.now ≡ eights result }
-{
-    // Each is replaced below, by its index: no proof knows what an `iter_mut` under a `zip` wrote.
-    let mut numbers = [0; K];
-    for (i, eight) in part.chunks_exact(8).enumerate() {
-        numbers[i] = number_in(eight);
-    }
-    numbers
-}
-
 // The figures that a part is.
 pub(crate) fn read_entry<const K: usize, E: Entry<K>>(part: &[u8]) -> E
     requires { length part.now ≡ 8 * K }
     ensures { part.now ≡ bytes_by E.numbers result }
 {
-    E::of(&numbers_in(part))
+    let Some(numbers) = numbers_in(part) else {
+        unreachable()
+    };
+    E::of(&numbers)
 }
 
 // Entries of three numbers, one after another.

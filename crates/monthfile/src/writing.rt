@@ -3,11 +3,12 @@ ghost use Rattle.std.specs.Prelude.{◌≡◌, ◌+◌, ◌*◌, ◌≤◌, ◌+
 ghost use Rattle.std.specs.List.{flat_map};
 ghost use Rattle.arrayvec.specs.ArrayVec.{array_vec_len};
 ghost use Rattle.fields.specs.Bytes.{field_of};
+ghost use Rattle.fields.specs.Room.{Wrote, Short};
 ghost use Rattle.month.specs.Stated.{stated};
 ghost use Rattle.month.specs.Tags.{tag_number};
 ghost use Rattle.month.specs.View.{figures};
 ghost use Rattle.monthfile.specs.Layout.{bytes_by, file_of};
-ghost use Rattle.monthfile.specs.Writing.{Wrote, Short, WroteBack};
+ghost use Rattle.monthfile.specs.Writing.{WroteBack};
 
 use crate::entry::Entry;
 use arrayvec::ArrayVec;

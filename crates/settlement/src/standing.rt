@@ -25,15 +25,22 @@ impl Standing {
             | (Standing::Correcting, Band::Beyond | Band::Between) => {}
         }
     }
+
+    // As it is printed.
+    pub fn word(self) -> &'static str
+        ensures { result.now ≡ standing_word self }
+    {
+        match self {
+            Standing::Steady => "steady",
+            Standing::Correcting => "correcting",
+        }
+    }
 }
 
 impl fmt::Display for Standing {
     ghost output = { λ s. Some (standing_word s) };
 
     fn fmt<W: fmt::Write>(&self, f: &mut fmt::Formatter<W>) -> fmt::Result {
-        match *self {
-            Standing::Steady => f.write_str("steady"),
-            Standing::Correcting => f.write_str("correcting"),
-        }
+        f.write_str(self.word())
     }
 }
