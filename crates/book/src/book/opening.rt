@@ -25,3 +25,21 @@ impl<S: Schedule> Book<S> {
         Ok(())
     }
 }
+
+impl<S: Schedule + Drop> Book<S> {
+    // Opens a closed book over the schedule that is handed in. A refused opening leaves it the one that it had.
+    pub fn open_with(&mut self, schedule: S, opening: &Opening) -> Result<(), BookFault>
+        ensures schedule { OnOk result (self.new.schedule ≡ schedule) }
+        ensures cases { MatchResult result
+            (λ _. Opens (length (S.Schedule.meaning schedule)) self.old.account self.new.account (given opening.now))
+            (λ e. NotOpened (length (S.Schedule.meaning schedule)) self.old.account (given opening.now) e) }
+        ensures refused { OnErr result (self.new ≡ self.old) }
+        // The book agrees with the tally of no file.
+        ensures reconciled { OnOk result (BookReconciled (S.Schedule.meaning schedule) (numbers_of (given opening.now)) [] self.new.account) }
+    {
+        let opened = Opened::ask(schedule.count(), self.opened.is_none(), opening)?;
+        self.schedule = schedule;
+        self.opened = Some(opened);
+        Ok(())
+    }
+}
