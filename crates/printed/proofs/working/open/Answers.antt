@@ -1,0 +1,8 @@
+use Rattle.printed.proofs.Openings.{opens_by}
+use Rattle.printed.proofs.working.open.Goals as goal
+
+pub returns : goal.returns
+returns c =
+    let made = c.in_ok-charges.ensures in
+    let opened = c.in_ok-open_with.ensures in
+    opens_by _ _ _ _ _ _ made.0 made.1 c.opening.ensures opened.cases.asked opened.cases.book opened.schedule

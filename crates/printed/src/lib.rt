@@ -1,0 +1,23 @@
+// The printed run: frames read from a stream, each worked on a book, and a line told of each.
+#![tactic(auto)]
+
+mod call;
+mod closed;
+mod frame;
+mod frames;
+mod line;
+mod no_frame;
+mod opening;
+mod run;
+mod text;
+mod working;
+
+pub use call::Call;
+pub use closed::closed_book;
+pub use frame::Frame;
+pub use frames::Frames;
+pub use line::Line;
+pub use no_frame::NoFrame;
+pub use opening::OpeningFrame;
+pub use run::write_run;
+pub use working::work;

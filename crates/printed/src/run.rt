@@ -1,0 +1,52 @@
+// The whole run.
+ghost use Rattle.std.specs.Prelude.{◌≡◌, ℕ, ◌+◌, ◌<◌, ◌≤◌, List, ◌++◌, if◌then◌else◌, is_ok, OnErr, vec_capacity, length, MatchResult};
+ghost use Rattle.printed.specs.Filings.{NonePending};
+ghost use Rattle.printed.specs.Lines.{line_bytes};
+ghost use Rattle.printed.specs.Runs.{State, state_of, Printed, LacksRoom};
+
+use crate::frames::Frames;
+use crate::line::Line;
+use crate::working::work;
+use book::Book;
+use schedule::FourCharges;
+use std::alloc::AllocError;
+
+// Appends a line.
+fn append_line(output: &mut Vec<u8>, line: &Line) -> Result<(), AllocError>
+    ensures appended { output.new.items ≡ (if is_ok result then output.old.items ++ line_bytes line.now else output.old.items) }
+    ensures capacity { vec_capacity output.old ≤ vec_capacity output.new }
+    ensures full { OnErr result (vec_capacity output.old < length output.old.items + length (line_bytes line.now)) }
+{
+    let mut buffer = [0; 1024];
+    let Ok(length) = line.write(&mut buffer) else {
+        unreachable()
+    };
+    output.extend_from_slice(&buffer[..length])
+}
+
+// Works the frames of the input one after another, and appends a line for each; where no frame is next, a last line tells its offset. For want
+// of memory the run breaks off before the line that does not fit, whose frame has been worked.
+pub fn write_run(
+    book: &mut Book<FourCharges>,
+    input: &[u8],
+    output: &mut Vec<u8>,
+) -> Result<(), AllocError>
+    ensures cases { MatchResult result
+        (λ _. Printed (state_of book.old) input.now output.old.items output.new.items (state_of book.new))
+        (λ _. LacksRoom (state_of book.old) input.now (vec_capacity output.old) output.old.items output.new.items (state_of book.new)) }
+    // No other output is that of a run, and no other book is left by it: the input and the book settle every byte, and what the book then holds.
+    // Where memory lacks, the output is a beginning of that one.
+    ensures once { (out : List ℕ) (after : State) → Printed (state_of book.old) input.now output.old.items out after
+        → MatchResult result (λ _. (output.new.items ≡ out) × (state_of book.new ≡ after)) (λ _. (later : List ℕ) × (out ≡ output.new.items ++ later)) }
+    // Where no month was pending before, none is afterwards, also where memory lacks.
+    ensures none_pending { NonePending book.old.account → NonePending book.new.account }
+{
+    let mut frames = Frames::new(input);
+    loop {
+        match frames.read() {
+            Ok(Some(frame)) => append_line(output, &work(book, &frame))?,
+            Ok(None) => return Ok(()),
+            Err(none) => return append_line(output, &Line::NoFrame(none.at)),
+        }
+    }
+}
