@@ -1,0 +1,183 @@
+// Worked examples of what the table does not show.
+mod frames;
+
+use crate::tests::frames::{ENTRY, OPENING};
+use bounded::UpTo;
+use fields::{Layer, Refusal, ShortBuffer};
+use printed::{Call, Frames, Line, NoFrame, closed_book, work, write_run};
+use settlement::{Answer, Closing, Rate, Standing};
+use std::process::Abort;
+use std::test::Fail;
+
+// What a buffer is filled with, to be told from what is written.
+const FILL: u8 = 0xa5;
+
+fn check_written(rt: &impl Abort, line: &Line, text: &str, buffer: &mut [u8]) {
+    assert!(rt; line.write(buffer) == Ok(text.len()), "{text}");
+    assert!(rt; buffer.starts_with(text.as_bytes()), "{text}");
+    let kept = buffer.iter().skip(text.len()).all(|byte| *byte == FILL);
+    assert!(rt; kept, "{text}");
+}
+
+fn check_line(rt: &impl Abort, line: &Line, text: &str) {
+    let mut buffer = [FILL; 1023];
+    let short = ShortBuffer { length: 1023 };
+    assert!(rt; line.write(&mut buffer) == Err(short), "{text}");
+    assert!(rt; buffer == [FILL; 1023], "{text}");
+    check_written(rt, line, text, &mut [FILL; 1024]);
+    check_written(rt, line, text, &mut [FILL; 2000]);
+    let letter = text.split_once(' ').map(|(letter, _)| letter);
+    assert!(rt; letter == Some(line.letter()), "{text}");
+}
+
+// Lines of each kind, with small numbers and with the greatest.
+#[test]
+fn lines_in_buffers(rt: HostRuntime) -> Result<(), Fail> {
+    let full_book = Refusal {
+        number: 12,
+        layer: Layer::Book,
+        place: 36,
+    };
+    let losses_too_high = Refusal {
+        number: 10,
+        layer: Layer::Month,
+        place: 5,
+    };
+    let far_in_a_file = Refusal {
+        number: u8::MAX,
+        layer: Layer::File,
+        place: usize::MAX,
+    };
+    for (line, text) in [
+        (Line::Opened(0), "O 0\n"),
+        (Line::Opened(u64::MAX), "O 18446744073709551615\n"),
+        (
+            Line::Refused(Call::Opening, full_book),
+            "O refused 12 book 36\n",
+        ),
+        (
+            Line::Refused(Call::Entry, losses_too_high),
+            "E refused 10 month 5\n",
+        ),
+        (
+            Line::Refused(Call::Entry, far_in_a_file),
+            "E refused 255 file 18446744073709551615\n",
+        ),
+        (Line::Entered(0, Answer::default()), "E 0 0 0 steady\n"),
+        (Line::NoFrame(0), "X 0\n"),
+        (Line::NoFrame(usize::MAX), "X 18446744073709551615\n"),
+    ] {
+        check_line(&rt, &line, text);
+    }
+    Ok(())
+}
+
+// As many rates as there can be.
+#[test]
+fn rates_and_totals_below_zero(rt: HostRuntime) -> Result<(), Fail> {
+    let mut rates = UpTo::new();
+    for units in [
+        -1_000_000, 11_000_000, -1, 0, -1_000_000, -1_000_000, -10, -100,
+    ] {
+        assert!(rt; rates.push(Rate { units }).is_ok());
+    }
+    let closing = Closing {
+        total: i64::MIN,
+        revenue: u64::MAX,
+    };
+    let answer = Answer {
+        rates,
+        closing,
+        standing: Standing::Correcting,
+    };
+    let text =
+        "E 65535 -1000000 11000000 -1 0 -1000000 -1000000 -10 -100 -9223372036854775808 18446744073709551615 correcting\n";
+    check_line(&rt, &Line::Entered(u16::MAX, answer), text);
+    Ok(())
+}
+
+// No fault moves them on, and neither does the end.
+#[test]
+fn frames_stay_where_they_are(rt: HostRuntime) -> Result<(), Fail> {
+    for fault in [
+        b"\x10".as_slice(),
+        b"\x0f\x00",
+        b"\x11\x00\x00",
+        b"\x0f\x00\x57\x00",
+        b"\x10\x00\x02\x00",
+    ] {
+        let stream = [OPENING.as_slice(), &ENTRY, fault].concat(rt.alloc())?;
+        let mut frames = Frames::new(stream.as_slice());
+        assert!(rt; frames.read()?.is_some() && frames.read()?.is_some());
+        for _ in 0..3 {
+            assert!(rt;
+                frames.read().err() == Some(NoFrame { at: 261 }),
+                "{fault:?}"
+            );
+        }
+    }
+    let mut frames = Frames::new(&ENTRY);
+    assert!(rt; frames.read()?.is_some());
+    for _ in 0..3 {
+        assert!(rt; frames.read()?.is_none());
+    }
+    Ok(())
+}
+
+const OPENED_AND_ENTERED: &str = "\
+    O 7\n\
+    E 1 49791 10000 4645 3300 -104757845 7289242155 steady\n";
+
+// The lines of a caller that works frame by frame.
+#[test]
+fn frame_by_frame(rt: HostRuntime) -> Result<(), Fail> {
+    let stream = [OPENING.as_slice(), &ENTRY].concat(rt.alloc())?;
+    let mut frames = Frames::new(stream.as_slice());
+    let mut book = closed_book(rt.alloc())?;
+    let mut lines = Vec::new(rt.alloc());
+    for _ in 0..2 {
+        let Some(frame) = frames.read()? else {
+            return Err(Fail::new("no frame"));
+        };
+        let mut buffer = [0; 1024];
+        let length = work(&mut book, &frame).write(&mut buffer)?;
+        lines.extend_from_slice(&buffer[..length])?;
+    }
+    assert_eq!(rt; String::from_utf8(lines)?.as_str(), OPENED_AND_ENTERED);
+    Ok(())
+}
+
+// A run on a book that is open goes on with it, and with the output; offsets are those of its own stream.
+#[test]
+fn run_goes_on(rt: HostRuntime) -> Result<(), Fail> {
+    let first = [OPENING.as_slice(), &ENTRY].concat(rt.alloc())?;
+    let mut next_month = ENTRY;
+    next_month[7] = 2;
+    let second = [next_month.as_slice(), b"\x10\x00"].concat(rt.alloc())?;
+    let mut book = closed_book(rt.alloc())?;
+    let mut output = Vec::new(rt.alloc());
+    output.extend_from_slice(b"here before\n")?;
+    write_run(&mut book, first.as_slice(), &mut output)?;
+    write_run(&mut book, second.as_slice(), &mut output)?;
+    let lines = format!(in rt.alloc();
+        "here before\n{OPENED_AND_ENTERED}E 2 49791 10000 4645 3300 -104603690 14578484310 steady\nX 170\n"
+    )?;
+    assert_eq!(rt; String::from_utf8(output)?.as_str(), lines.as_str());
+    Ok(())
+}
+
+// All lines stand, or whole ones and the first: with `rt try --test --fail-alloc N` the Nth allocation fails, and a book has the first three.
+#[test]
+fn lines_before_memory_lacks(rt: HostRuntime) -> Result<(), Fail> {
+    let stream = [[16, 0, 0]; 50];
+    let Ok(mut book) = closed_book(rt.alloc()) else {
+        return Ok(());
+    };
+    let mut output = Vec::new(rt.alloc());
+    let ran = write_run(&mut book, stream.as_flattened(), &mut output);
+    for line in output.as_slice().chunks(19) {
+        assert!(rt; line == b"E refused 1 file 0\n".as_slice());
+    }
+    assert_eq!(rt; output.len() == 50 * 19, ran.is_ok());
+    Ok(())
+}
