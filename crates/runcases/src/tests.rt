@@ -166,6 +166,27 @@ fn run_goes_on(rt: HostRuntime) -> Result<(), Fail> {
     Ok(())
 }
 
+// Tens of thousands of frames, in 8.5 MB.
+#[test]
+fn long_stream(rt: HostRuntime) -> Result<(), Fail> {
+    let mut stream = Vec::from_slice(rt.alloc(), &OPENING)?;
+    for _ in 0..50_000 {
+        stream.extend_from_slice(&ENTRY)?;
+    }
+    let mut book = closed_book(rt.alloc())?;
+    let mut output = Vec::new(rt.alloc());
+    write_run(&mut book, stream.as_slice(), &mut output)?;
+    let output = output.as_slice();
+    assert!(rt; output.starts_with(OPENED_AND_ENTERED.as_bytes()));
+    // The month is entered once, and refused from then on.
+    let refused = output[OPENED_AND_ENTERED.len()..].chunks(20);
+    assert_eq!(rt; refused.len(), 49_999);
+    for line in refused {
+        assert!(rt; line == b"E refused 12 book 1\n".as_slice());
+    }
+    Ok(())
+}
+
 // All lines stand, or whole ones and the first: with `rt try --test --fail-alloc N` the Nth allocation fails, and a book has the first three.
 #[test]
 fn lines_before_memory_lacks(rt: HostRuntime) -> Result<(), Fail> {
