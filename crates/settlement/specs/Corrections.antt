@@ -1,6 +1,7 @@
 -- What is added to a base rate while a correction is in force.
 use Rattle.std.specs.Prelude.{ℕ, ◌*◌, Bool, true, false, not, if◌then◌else◌, ◌&&◌, ℤ, pos, negsuc, int_div, int_lt, Option, Some, None}
 use Rattle.std.specs.Int.{int_max, int_min}
+use Rattle.std.specs.Option.{option_map}
 use Rattle.settlement.specs.declared.record.Mark.{Mark}
 use Rattle.settlement.specs.declared.record.Mark.TheVariants.{Pending, Filed, Missed}
 use Rattle.settlement.specs.declared.record.Record.{Record}
@@ -12,10 +13,14 @@ is_filed Pending = false
 is_filed Filed = true
 is_filed Missed = false
 
+-- a month stands and is not filed, by its mark
+abbrev pub not_filed : Option Mark → Bool
+not_filed None = false
+not_filed (Some mark) = not (is_filed mark)
+
 -- an upward correction is barred where the month before the last stands and is not marked filed (Article 5, Section 1)
 abbrev pub is_barred : Option Record → Bool
-is_barred None = false
-is_barred (Some before) = not (is_filed before.mark)
+is_barred before = not_filed (option_map (λ r. r.mark) before)
 
 -- a balance spread over a divisor, rounded toward zero
 abbrev pub spread_over : ℤ → ℕ → ℤ

@@ -1,4 +1,4 @@
-// What an accepted entry is answered.
+// What an accepted entry or amendment is answered.
 ghost use Rattle.std.specs.Prelude.{◌≡◌, [], pos};
 ghost use Rattle.settlement.specs.Answers.{answered};
 ghost use Rattle.settlement.specs.declared.standing.Standing.TheVariants.{Steady};

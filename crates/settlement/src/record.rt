@@ -6,8 +6,9 @@ use crate::standing::Standing;
 use std::fmt;
 
 // Whether the month's filing is still due, was made, or was missed.
-#[derive(Clone, Copy, Debug, PartialEq, Eq)]
+#[derive(Clone, Copy, Debug, Default, PartialEq, Eq)]
 pub enum Mark {
+    #[default]
     Pending,
     Filed,
     Missed,
