@@ -2,7 +2,7 @@
 use Rattle.std.proofs.Common.{◌≡◌, ℕ, zero, suc, ◌-◌, ◌<◌, true, List, [], ◌∷◌, ◌++◌, map, length, take, get_or, set, Option, Some, None, Ok, Err, Result, OnErr, MatchResult, sym, refl, ap, subst, ◌∙◌, arith}
 use Rattle.std.specs.Option.{unwrap_or}
 use Rattle.std.proofs.lemmas.Bool.{and_parts, cond-true, false≢true}
-use Rattle.std.proofs.lemmas.List.{length-map, map_push}
+use Rattle.std.proofs.lemmas.List.{map_push}
 use Rattle.bounded.specs.declared.up_to.UpTo.{UpTo}
 use Rattle.charges.specs.Meaning.{Meaning}
 use Rattle.month.specs.declared.month.Month.{Month}
@@ -14,36 +14,16 @@ use Rattle.settlement.specs.declared.standing.Standing.TheVariants.{Steady}
 use Rattle.book.specs.Account.{Account, BookState, held_by}
 use Rattle.book.specs.Duties.{pends, is_owed, marked, marked_book, Spent, Returned}
 use Rattle.book.specs.Opening.{OpeningNumbers}
-use Rattle.book.specs.Places.{of_month, changed_at, changed_month}
+use Rattle.book.specs.Places.{of_month, changed_month}
 use Rattle.book.specs.Reconciled.{Reconciled, BookReconciled, standing_left}
 use Rattle.book.specs.Tally.{Posting}
 use Rattle.book.specs.declared.duty.Duty.{Duty}
 use Rattle.book.specs.declared.duty.ReturnedDuty.{ReturnedDuty}
 use Rattle.book.specs.declared.opened.Opened.{Opened}
-
--- a write of f done to what stands at a place
-module _ {X : Type 0} (f : X → X) where
-  set_changed : (xs : List X) (n : ℕ) (x : X) → x ≡ get_or xs n x → set xs n (f x) ≡ changed_at f n xs
-  set_changed [] n x is = refl
-  set_changed (y ∷ ys) zero x is = ap (λ z. f z ∷ ys) is
-  set_changed (y ∷ ys) (suc n) x is = ap (λ zs. y ∷ zs) (set_changed ys n x is)
-
--- what is read of each element, where f keeps it
-module _ {X Y : Type 0} (f : X → X) (read : X → Y) (kept : (x : X) → read (f x) ≡ read x) where
-  map_changed_at : (xs : List X) (n : ℕ) → map read (changed_at f n xs) ≡ map read xs
-  map_changed_at [] n = refl
-  map_changed_at (x ∷ xs) zero = ap (λ y. y ∷ map read xs) (kept x)
-  map_changed_at (x ∷ xs) (suc n) = ap (λ ys. read x ∷ ys) (map_changed_at xs n)
-
-  map_changed : (month : ℕ) (xs : List X) → map read (changed_month f month xs) ≡ map read xs
-  map_changed zero xs = refl
-  map_changed (suc n) xs = map_changed_at xs n
-
-  length_changed : (month : ℕ) (xs : List X) → length (changed_month f month xs) ≡ length xs
-  length_changed month xs = sym (length-map _ read) ∙ ap length (map_changed month xs) ∙ length-map xs read
+use Rattle.book.proofs.Changed.{set_changed, changed_place, length_changed, map_kept}
 
 -- the last element, by what is read of it
-last_read : {X Y : Type 0} (read : X → Y) (xs : List X) (ys : List Y) (y : Y) → map read xs ≡ ys ++ y ∷ [] → (zs : List X) × (z : X) × (xs ≡ zs ++ z ∷ []) × (read z ≡ y)
+pub last_read : {X Y : Type 0} (read : X → Y) (xs : List X) (ys : List Y) (y : Y) → map read xs ≡ ys ++ y ∷ [] → (zs : List X) × (z : X) × (xs ≡ zs ++ z ∷ []) × (read z ≡ y)
 last_read read [] [] y e = absurd (cc)
 last_read read [] (_ ∷ _) y e = absurd (cc)
 last_read read (x ∷ []) [] y e = ([], x, refl, (cc))
@@ -62,9 +42,9 @@ left_read (r ∷ rs) (suc (suc n)) = left_read rs (suc n)
 marked_reconciled : (mark : Mark) (month : ℕ) (row : List Meaning) (o : OpeningNumbers) (ps : List Posting) (a : Account) → Reconciled row o ps a → Reconciled row o ps (marked mark month a)
 marked_reconciled mark month row o ps a h =
     let put = λ (r : Record). record r { mark = mark } in
-    let closings = map_changed put (λ r. r.closing) (λ _. refl) month a.records in
-    let standings = map_changed put (λ r. r.standing) (λ _. refl) month a.records in
-    let as_long = length_changed put (λ r. r.closing) (λ _. refl) month a.records in
+    let closings = map_kept put (λ r. r.closing) (λ _. refl) month a.records in
+    let standings = map_kept put (λ r. r.standing) (λ _. refl) month a.records in
+    let as_long = length_changed put month a.records in
     record {
       spread = h.spread;
       balances = h.balances;
@@ -94,8 +74,8 @@ filed_reconciled (Err _) row o ps before after duty mark s same h = subst (λ b.
 mark_written : (mark : Mark) (month n : ℕ) (rs : List Record) (r : Record) → pends (of_month rs month) ≡ true → n ≡ month - 1 → r ≡ get_or rs n r → set rs n (record r { mark = mark }) ≡ changed_month (λ r. record r { mark = mark }) month rs
 mark_written mark zero n rs r pending at is = absurd (false≢true pending)
 mark_written mark (suc k) n rs r pending at is =
-    let here : n ≡ k = omega arith in
-    set_changed (λ r. record r { mark = mark }) rs n r is ∙ ap (λ j. changed_at (λ r. record r { mark = mark }) j rs) here
+    let put = λ (r : Record). record r { mark = mark } in
+    set_changed put rs n r is ∙ changed_place put rs (suc k) n (omega arith)
 
 place_within : (rs : List Record) (k : ℕ) → pends (of_month rs (suc k)) ≡ true → k < length rs
 place_within [] k pending = absurd (false≢true pending)

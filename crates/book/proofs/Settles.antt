@@ -13,10 +13,13 @@ use Rattle.settlement.specs.Answers.{Answered, Lawfully, opening_units}
 use Rattle.settlement.specs.declared.amounts.Rate.{Rate}
 use Rattle.settlement.specs.declared.record.Record.{Record}
 use Rattle.book.specs.Account.{account_of, held_by}
-use Rattle.book.specs.Entering.{AnswersTo, answer_to, entry_asked}
+use Rattle.book.specs.Entering.{AnswersTo, answer_to}
+use Rattle.book.specs.Postings.{posting_asked}
 use Rattle.book.specs.Sound.{Sound}
+use Rattle.book.specs.declared.kind.PostingKind.TheVariants.{Entry}
 use Rattle.book.specs.declared.opened.Opened.{Opened}
-use Rattle.book.proofs.Added.{admits, all_fit_added, room_for_month}
+use Rattle.book.proofs.Added.{all_fit_added, room_for_month}
+use Rattle.book.proofs.Admits.{admits, next_month}
 use Rattle.book.proofs.Fits.{fit_lawfully}
 
 -- there is room for the month, and the answers of all mechanisms keep the law
@@ -26,11 +29,12 @@ pub record Settles (row : List Meaning) (o : Opened) (months : List Month) (bill
   pub lawful : Lawfully row (length (opening_units o.terms.balances)) (map figures months ++ figures m ∷ [])
 
 module _ (row : List Meaning) {opened : Option Opened} (o : Opened) (months : List Month) (billed : List (UpTo Rate 8)) (records : List Record) (is : opened ≡ Some o) where
-  pub settles : (m : Month) → All Lawful row → Sound row opened months billed records → first_no (entry_asked row (held_by opened months billed records) (figures m)) ≡ None → Settles row o months billed m
+  pub settles : (m : Month) → All Lawful row → Sound row opened months billed records → first_no (posting_asked Entry row (held_by opened months billed records) (figures m)) ≡ None → Settles row o months billed m
   settles m laws sound clear =
       let sound_open = subst (λ (x : Option Opened). Sound row x months billed records) is sound in
-      let clear_open = subst (λ (x : Option Opened). first_no (entry_asked row (held_by x months billed records) (figures m)) ≡ None) is clear in
-      let known = admits row o months billed records (figures m) clear_open in
+      let clear_open = subst (λ (x : Option Opened). first_no (posting_asked Entry row (held_by x months billed records) (figures m)) ≡ None) is clear in
+      let known = admits Entry row o months billed records (figures m) clear_open in
+      let follows = next_month (figures m).month (length months) known.placed in
       let limit = (month_valid m).within.month_most in
       let ms = map figures months in
       let all = all_fit_added row months m sound_open.fit known.fit in
@@ -39,7 +43,7 @@ module _ (row : List Meaning) {opened : Option Opened} (o : Opened) (months : Li
       record {
         room = room.0;
         room_billed = room.1;
-        lawful = fit_lawfully row (ms ++ figures m ∷ []) (length (opening_units o.terms.balances)) laws all (omega (arith, long, limit, known.next)) (omega (arith, long)) (sym sound_open.suits);
+        lawful = fit_lawfully row (ms ++ figures m ∷ []) (length (opening_units o.terms.balances)) laws all (omega (arith, long, limit, follows)) (omega (arith, long)) (sym sound_open.suits);
       }
 
   -- an answer of the open book is one of the book

@@ -6,6 +6,7 @@ use Rattle.month.specs.declared.month.Month.{Month}
 use Rattle.settlement.specs.Answers.{units_of, opening_units, left_by}
 use Rattle.bounded.specs.declared.up_to.UpTo.{UpTo}
 use Rattle.settlement.specs.declared.amounts.Rate.{Rate}
+use Rattle.settlement.specs.declared.record.Closing.{Closing}
 use Rattle.settlement.specs.declared.record.Record.{Record}
 use Rattle.settlement.specs.declared.record.Mark.{Mark}
 use Rattle.settlement.specs.declared.standing.Standing.{Standing}
@@ -48,6 +49,10 @@ held_by (Some o) months billed records = Some (account_of o months billed record
 -- the marks of the months that stand
 abbrev pub marks_of : Account → List Mark
 marks_of a = map (λ r. r.mark) a.records
+
+-- the figures that these closed with
+abbrev pub closings_of : Account → List Closing
+closings_of a = map (λ (r : Record). r.closing) a.records
 
 abbrev pub marks_told : Option Account → List Mark
 marks_told None = []

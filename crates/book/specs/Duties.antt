@@ -1,4 +1,4 @@
--- What is asked of a duty, and what filing it makes.
+-- What is asked of a duty, and what filing it or giving it up makes.
 use Rattle.std.specs.Prelude.{◌≡◌, ℕ, Bool, true, false, ◌&&◌, List, [], ◌∷◌, Option, Some, None, ◌==◌}
 use Rattle.settlement.specs.declared.record.Mark.{Mark}
 use Rattle.settlement.specs.declared.record.Mark.TheVariants.{Pending, Filed, Missed}

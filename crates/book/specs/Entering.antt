@@ -1,39 +1,17 @@
--- What entering a month asks, answers and makes.
-use Rattle.std.specs.Prelude.{◌≡◌, ℕ, ◌+◌, Bool, false, List, [], ◌∷◌, ◌++◌, length, Option, Some, None, ◌==◌}
+-- What entering a month answers and makes.
+use Rattle.std.specs.Prelude.{◌≡◌, ℕ, List, [], ◌∷◌, ◌++◌, Option, Some, None}
 use Rattle.charges.specs.Meaning.{Meaning}
-use Rattle.fields.specs.Questions.{first_no, carried}
+use Rattle.fields.specs.Questions.{first_no}
 use Rattle.month.specs.Figures.{Figures}
 use Rattle.month.specs.Valid.{Valid}
 use Rattle.monthfile.specs.Layout.{file_of}
-use Rattle.monthfile.specs.Questions.{file_asked, asked}
-use Rattle.monthfile.specs.Reading.{States}
-use Rattle.schedule.specs.Rows.{numbered}
 use Rattle.settlement.specs.Answers.{Answered, settled, left_by}
 use Rattle.settlement.specs.Corrections.{is_barred}
-use Rattle.settlement.specs.Numbers.{by_number}
 use Rattle.settlement.specs.declared.record.Mark.TheVariants.{Pending}
 use Rattle.book.specs.Account.{Account, last_record}
-use Rattle.book.specs.Refusals.{book_refusal}
+use Rattle.book.specs.Postings.{posting_asked}
 use Rattle.book.specs.declared.duty.Duty.{Duty}
-use Rattle.book.specs.declared.fault.BookFault.{BookFault}
-use Rattle.book.specs.declared.fault.BookFault.TheVariants.{Month, WrongMonth, NotFit}
-
--- whether the month is the next to enter; a closed book has none
-abbrev pub is_next : Option Account → Figures → Bool
-is_next None m = false
-is_next (Some a) m = m.month == length a.months + 1
-
--- question 13, of n mechanisms by number
-abbrev pub fit_asked : List Meaning → ℕ → Figures → List (Bool × BookFault)
-fit_asked row n m = by_number (λ i. ((numbered row i).fit m, NotFit i)) n
-
--- questions 12 and 13
-abbrev pub entry_asked : List Meaning → Option Account → Figures → List (Bool × BookFault)
-entry_asked row account m = (is_next account m, WrongMonth m.month) ∷ fit_asked row (length row) m
-
--- questions 1 to 13, of a file and of the figures that it states
-abbrev pub all_asked : List Meaning → Option Account → List ℕ → Figures → List (Bool × BookFault)
-all_asked row account file m = carried Month (asked file m) ++ entry_asked row account m
+use Rattle.book.specs.declared.kind.PostingKind.TheVariants.{Entry}
 
 -- the answer to entering a month: it is billed at the rates last announced, and settled after the months that stand
 abbrev pub answer_to : List Meaning → Account → Figures → Answered
@@ -71,17 +49,8 @@ pub record Entered (row : List Meaning) (before after : Option Account) (file : 
   pub stated : Figures
   pub valid : Valid stated
   pub file_states : file ≡ file_of stated
-  pub asked : first_no (entry_asked row before stated) ≡ None
+  pub asked : first_no (posting_asked Entry row before stated) ≡ None
   pub book : after ≡ Some (with_month row account stated)
   pub answer_is : answer ≡ answer_to row account stated
   pub duty_book : duty.book ≡ account.number
   pub duty_month : duty.month ≡ stated.month
-
--- the fault is that of the first question answered no; questions 6 to 13 are asked of some figures, and where 1 to 5 are answered yes these are
--- the ones that the file states
-pub record EntryRefused (row : List Meaning) (account : Option Account) (file : List ℕ) (e : BookFault) : Type 0 where
-  pub asked_of : Figures
-  pub states : first_no (file_asked file) ≡ None → States file asked_of
-  pub first : first_no (all_asked row account file asked_of) ≡ Some e
-  -- the same, by number, layer and place
-  pub told : first_no (carried book_refusal (all_asked row account file asked_of)) ≡ Some (book_refusal e)

@@ -1,8 +1,11 @@
 pub mod Account
+pub mod Amending
 pub mod Duties
 pub mod Entering
+pub mod Facts
 pub mod Opening
 pub mod Places
+pub mod Postings
 pub mod Reading
 pub mod Reconciled
 pub mod Refusals

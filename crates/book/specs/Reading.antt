@@ -1,5 +1,5 @@
 -- What a book tells when it is read: nothing for a number that names nothing.
-use Rattle.std.specs.Prelude.{ℕ, Bool, List, ◌∷◌, ℤ, Option, Some, None, is_some, slice_get}
+use Rattle.std.specs.Prelude.{◌≡◌, ℕ, Bool, List, ◌∷◌, ℤ, Option, Some, None, is_some, slice_get}
 use Rattle.std.specs.Option.{option_map, option_and_then}
 use Rattle.charges.specs.Meaning.{Meaning}
 use Rattle.fields.specs.Questions.{carried}
@@ -9,6 +9,7 @@ use Rattle.schedule.specs.Rows.{numbered}
 use Rattle.settlement.specs.Rules.{outstanding, total}
 use Rattle.settlement.specs.declared.record.Closing.{Closing}
 use Rattle.settlement.specs.declared.record.Mark.{Mark}
+use Rattle.settlement.specs.declared.record.Mark.TheVariants.{Pending}
 use Rattle.settlement.specs.declared.record.Record.{Record}
 use Rattle.settlement.specs.declared.standing.Standing.{Standing}
 use Rattle.settlement.specs.declared.standing.Standing.TheVariants.{Steady}
@@ -43,6 +44,10 @@ record_told (Some a) month = of_month a.records month
 
 abbrev pub mark_told : Option Account → ℕ → Option Mark
 mark_told account month = option_map (λ r. r.mark) (record_told account month)
+
+-- no month of the book has its filing pending; a closed book has no month
+abbrev pub NonePending : Option Account → Type 0
+NonePending account = (month : ℕ) → mark_told account month ≡ Some Pending → ⊥
 
 abbrev pub closing_told : Option Account → ℕ → Option Closing
 closing_told account month = option_map (λ r. r.closing) (record_told account month)

@@ -1,55 +1,39 @@
--- A book agrees with the tally of some postings, as it does with that of the files that it accepted.
-use Rattle.std.specs.Prelude.{◌≡◌, ℕ, ◌+◌, ◌-◌, ◌≤◌, Bool, false, not, List, [], ◌∷◌, ◌++◌, map, length, take, fold, All, Option, Some, None}
+-- When a book agrees with the tally of some postings.
+use Rattle.std.specs.Prelude.{◌≡◌, ℕ, ◌-◌, ◌≤◌, true, List, [], ◌∷◌, ◌++◌, length, take, fold, All, Option, Some, None}
 use Rattle.charges.specs.Meaning.{Meaning}
 use Rattle.month.specs.Valid.{Valid}
 use Rattle.monthfile.specs.Layout.{file_of}
-use Rattle.settlement.specs.Answers.{settled, closing_now, left_by}
-use Rattle.settlement.specs.Bands.{band}
-use Rattle.settlement.specs.Corrections.{is_filed}
-use Rattle.settlement.specs.Standings.{judged}
+use Rattle.settlement.specs.Answers.{settled, closing_now, left_by, standing_after}
 use Rattle.settlement.specs.declared.record.Closing.{Closing}
-use Rattle.settlement.specs.declared.record.Mark.{Mark}
 use Rattle.settlement.specs.declared.record.Record.{Record}
 use Rattle.settlement.specs.declared.standing.Standing.{Standing}
 use Rattle.settlement.specs.declared.standing.Standing.TheVariants.{Steady}
-use Rattle.book.specs.Account.{Account}
+use Rattle.book.specs.Account.{Account, closings_of}
 use Rattle.book.specs.Opening.{OpeningNumbers}
 use Rattle.book.specs.Places.{of_month}
-use Rattle.book.specs.Tally.{Kind, Posting, Tally, posted, tally}
-use Rattle.book.specs.Tally.Kind.{Entry, Amendment}
+use Rattle.book.specs.Postings.{has_place}
+use Rattle.book.specs.Tally.{Posting, Tally, barred_by, posted, tally}
 
 -- the standing that months leave which closed with these figures, the oldest first
 abbrev pub standing_left : List Closing → Standing
-standing_left closings = fold (λ standing c. judged standing (band c.total c.revenue)) Steady closings
+standing_left closings = fold standing_after Steady closings
 
-abbrev pub not_filed : Option Mark → Bool
-not_filed None = false
-not_filed (Some mark) = not (is_filed mark)
-
--- of n standing months: an entry is of the one after them, an amendment of one of them
-abbrev pub Placed : Kind → ℕ → ℕ → Type 0
-Placed Entry month n = month ≡ n + 1
-Placed Amendment month n = (1 ≤ month) × (month ≤ n)
-
--- the figures of a posting are valid and have their place after these months, each of which has a mark in it, and its answer settles the months that
--- then stand. Which marks a book has, and when they change, is said where files are entered and filed; here they are taken as read
+-- the figures of a posting are valid and have their place after the months counted before, there are as many marks as these, and the answer settles the
+-- months that then stand. That the marks are the book's is said where files are entered and amend
 pub record ByRule (row : List Meaning) (o : OpeningNumbers) (before : Tally) (p : Posting) : Type 0 where
   pub valid : Valid p.stated
-  pub placed : Placed p.kind p.stated.month (length before.months)
+  pub placed : has_place p.kind p.stated.month (length before.months) ≡ true
   pub marks : length p.marks ≡ length before.months
   pub answer :
       let after : Tally = posted before p in
       let n : ℕ = length after.months in
-      p.answer ≡ settled row o.spread o.balances after.months after.billed (standing_left (take (n - 1) after.closings)) (not_filed (of_month p.marks (n - 1)))
-
-abbrev pub closings_of : Account → List Closing
-closings_of a = map (λ (r : Record). r.closing) a.records
+      p.answer ≡ settled row o.spread o.balances after.months after.billed (standing_left (take (n - 1) after.closings)) (barred_by p.marks n)
 
 -- what a book holds, as a tally
 abbrev pub tally_of : Account → Tally
 tally_of a = record { months = a.months; billed = a.billed; closings = closings_of a; announced = a.announced }
 
--- the book is where the postings, the oldest first, lead from the opening
+-- the book holds what is counted of the opening and the postings, the oldest first, and each posting keeps the rules
 pub record Reconciled (row : List Meaning) (o : OpeningNumbers) (ps : List Posting) (a : Account) : Type 0 where
   pub spread : a.spread ≡ o.spread
   pub balances : a.balances ≡ o.balances

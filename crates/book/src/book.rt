@@ -1,11 +1,14 @@
 // The book.
 use crate::opened::Opened;
+use bounded::UpTo;
 use month::Month;
 use schedule::Schedule;
-use settlement::{Rates, Record};
+use settlement::{Mark, Rates, Record};
 use std::marker::Model;
 
+mod amending;
 mod asking;
+mod auditing;
 mod entering;
 mod filing;
 mod making;
@@ -15,6 +18,9 @@ mod writing;
 
 // At most this many months stand.
 const MOST_MONTHS: usize = 36;
+
+// The marks of the months that stand, from month 1 on.
+pub type Marks = UpTo<Mark, MOST_MONTHS>;
 
 // A book over a schedule of mechanisms: closed, or open with the months that were entered. Contracts see its schedule, and what it holds where it
 // is open, as plain numbers and lists.

@@ -28,7 +28,7 @@ pub enum OpeningFault {
 pub enum BookFault {
     // The file states no month: questions 1 to 11.
     Month(MonthFault),
-    // The month is not the next to enter, or, to be written, no standing one: question 12.
+    // The month is not the next to enter, or, to be amended or written, no standing one: question 12.
     WrongMonth(u16),
     // The mechanism with this number, the lowest such, does not find the month fit: question 13.
     NotFit(usize),

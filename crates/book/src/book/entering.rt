@@ -5,25 +5,24 @@ ghost use Rattle.month.specs.Figures.{Figures};
 ghost use Rattle.month.specs.Valid.{Valid};
 ghost use Rattle.month.specs.View.{figures};
 ghost use Rattle.monthfile.specs.Layout.{file_of};
-ghost use Rattle.monthfile.specs.Reading.{Accepted};
 ghost use Rattle.settlement.specs.Answers.{answered, opening_units, Lawfully};
 ghost use Rattle.book.specs.Account.{Account, account_of, marks_told};
 ghost use Rattle.book.specs.Duties.{duty_asked};
-ghost use Rattle.book.specs.Entering.{Entered, EntryRefused, AnswersTo, Adds, entry_asked, answer_to};
+ghost use Rattle.book.specs.Entering.{Entered, AnswersTo, Adds, answer_to};
 ghost use Rattle.book.specs.Opening.{OpeningNumbers};
+ghost use Rattle.book.specs.Postings.{PostingRefused, posting_asked};
 ghost use Rattle.book.specs.Reconciled.{BookReconciled};
 ghost use Rattle.book.specs.Tally.{Posting, entry};
+ghost use Rattle.book.specs.declared.kind.PostingKind.TheVariants.{Entry};
 
-use super::asking::ask_fit;
 use super::{Book, MOST_MONTHS};
 use crate::duty::Duty;
 use crate::fault::BookFault;
+use crate::kind::PostingKind;
 use crate::opened::Opened;
 use crate::places::of_month;
 use bounded::UpTo;
-use fields::ask;
 use month::Month;
-use monthfile::read_month;
 use schedule::Schedule;
 use settlement::{Answer, Mark, Rates, Record, settle};
 
@@ -59,10 +58,10 @@ impl<S: Schedule> Book<S> {
         ensures schedule { self.new.schedule ≡ self.old.schedule }
         ensures cases { MatchResult result
             (λ duty. Entered (S.Schedule.meaning self.old.schedule) self.old.account self.new.account file.now (answered answer.new) duty)
-            (λ e. EntryRefused (S.Schedule.meaning self.old.schedule) self.old.account file.now e) }
+            (λ e. PostingRefused Entry (S.Schedule.meaning self.old.schedule) self.old.account file.now e) }
         // The file of a valid month, of which questions 12 and 13 are answered yes, is accepted.
         ensures accepts { (m : Figures) → Valid m → file.now ≡ file_of m
-            → first_no (entry_asked (S.Schedule.meaning self.old.schedule) self.old.account m) ≡ None → IsOk result }
+            → first_no (posting_asked Entry (S.Schedule.meaning self.old.schedule) self.old.account m) ≡ None → IsOk result }
         ensures refused { OnErr result ((self.new ≡ self.old) × (answer.new ≡ answer.old)) }
         // Filing would not refuse the duty now.
         ensures owed { IfOk result (λ duty. first_no (duty_asked self.new.account duty) ≡ None) }
@@ -73,36 +72,16 @@ impl<S: Schedule> Book<S> {
             (ps ++ entry file.now m (marks_told self.old.account) (answered answer.new) ∷ []) self.new.account)
             (λ _. BookReconciled (S.Schedule.meaning self.old.schedule) o ps self.new.account) }
     {
-        let month = self.admit(file)?;
+        let month = self.admit(PostingKind::Entry, file)?;
         let settled = self.answer_to(&month);
         let duty = self.add(month, &settled);
         *answer = settled;
         Ok(duty)
     }
 
-    // The month that the file states, where questions 1 to 13 are answered yes.
-    #[tactic(auto, using(crate::proofs::Admitted::no_month, crate::proofs::Admitted::not_next, crate::proofs::Admitted::not_fit))]
-    fn admit(&self, file: &[u8]) -> Result<Month, BookFault>
-        ensures { MatchResult result
-            (λ m. Accepted file.now m × (first_no (entry_asked (S.Schedule.meaning self.now.schedule) self.now.account (figures m)) ≡ None))
-            (λ e. EntryRefused (S.Schedule.meaning self.now.schedule) self.now.account file.now e) }
-    {
-        let month = read_month(file)?;
-        let number = month.statement().month;
-        let Some(opened) = self.opened else {
-            return Err(BookFault::WrongMonth(number));
-        };
-        ask(
-            usize::from(number) == self.months.len() + 1,
-            BookFault::WrongMonth(number),
-        )?;
-        ask_fit(&self.schedule, opened.terms.balances.len(), &month)?;
-        Ok(month)
-    }
-
     // What entering the month would answer; nothing changes.
     fn answer_to(&self, month: &Month) -> Answer
-        requires { first_no (entry_asked (S.Schedule.meaning self.now.schedule) self.now.account (figures month.now)) ≡ None }
+        requires { first_no (posting_asked Entry (S.Schedule.meaning self.now.schedule) self.now.account (figures month.now)) ≡ None }
         ensures { AnswersTo (S.Schedule.meaning self.now.schedule) self.now.account (figures month.now) (answered result) }
     {
         let Some(opened) = self.opened else {
@@ -123,7 +102,7 @@ impl<S: Schedule> Book<S> {
 
     // Adds the month with its answer, and hands out its duty.
     fn add(&mut self, month: Month, answer: &Answer) -> Duty
-        requires { first_no (entry_asked (S.Schedule.meaning self.old.schedule) self.old.account (figures month)) ≡ None }
+        requires { first_no (posting_asked Entry (S.Schedule.meaning self.old.schedule) self.old.account (figures month)) ≡ None }
         ensures schedule { self.new.schedule ≡ self.old.schedule }
         ensures added { Adds self.old.account self.new.account (figures month) (answered answer.now) result }
         ensures owed { first_no (duty_asked self.new.account result) ≡ None }

@@ -1,6 +1,6 @@
-// Filing a month.
+// Filing a month, and giving its filing up.
 ghost use Rattle.std.specs.Prelude.{◌≡◌, List, OnErr, MatchResult};
-ghost use Rattle.settlement.specs.declared.record.Mark.TheVariants.{Filed};
+ghost use Rattle.settlement.specs.declared.record.Mark.TheVariants.{Filed, Missed};
 ghost use Rattle.book.specs.Duties.{is_owed, Spent, Returned};
 ghost use Rattle.book.specs.Opening.{OpeningNumbers};
 ghost use Rattle.book.specs.Reconciled.{BookReconciled};
@@ -24,6 +24,18 @@ impl<S: Schedule> Book<S> {
             → BookReconciled (S.Schedule.meaning self.old.schedule) o ps self.new.account }
     {
         self.spend(duty, Mark::Filed)
+    }
+
+    // Spends the duty and marks its month missed; no rate is announced. A refused duty comes back.
+    pub fn give_up(&mut self, duty: Duty) -> Result<(), ReturnedDuty>
+        ensures schedule { self.new.schedule ≡ self.old.schedule }
+        ensures cases { MatchResult result (λ _. Spent self.old.account self.new.account duty Missed) (λ e. Returned self.old.account duty e) }
+        ensures refused { OnErr result (self.new ≡ self.old) }
+        // A book that agrees with a tally agrees with it afterwards: nothing is counted.
+        ensures reconciled { (o : OpeningNumbers) (ps : List Posting) → BookReconciled (S.Schedule.meaning self.old.schedule) o ps self.old.account
+            → BookReconciled (S.Schedule.meaning self.old.schedule) o ps self.new.account }
+    {
+        self.spend(duty, Mark::Missed)
     }
 
     // Spends the duty and puts the mark on its month.

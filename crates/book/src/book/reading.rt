@@ -1,9 +1,11 @@
 // Reading a book. A number that names nothing is answered with nothing.
 ghost use Rattle.std.specs.Prelude.{◌≡◌, slice_get};
+ghost use Rattle.bounded.specs.View.{held};
 ghost use Rattle.settlement.specs.Answers.{units_of};
+ghost use Rattle.book.specs.Account.{marks_told};
 ghost use Rattle.book.specs.Reading.{outstanding_told, total_told, standing_told, announced_told, billed_told, record_told, mark_told, closing_told};
 
-use super::Book;
+use super::{Book, Marks};
 use crate::places::of_month;
 use schedule::Schedule;
 use settlement::{Closing, Mark, Rates, Record, Standing, outstanding, total};
@@ -85,6 +87,17 @@ impl<S: Schedule> Book<S> {
         ensures { result ≡ mark_told self.now.account month }
     {
         Some(self.record(month)?.mark)
+    }
+
+    // The marks of all months that stand, in their order.
+    pub fn marks(&self) -> Marks
+        ensures { held result ≡ marks_told self.now.account }
+    {
+        let mut marks = Marks::new();
+        for record in self.records.as_slice() {
+            let _ = marks.push(record.mark);
+        }
+        marks
     }
 
     // The figures that a month closed with.

@@ -1,6 +1,7 @@
 -- A file that is taken is the next posting.
 use Rattle.std.proofs.lemmas.Result.{err_from_is_err_and}
 use Rattle.settlement.specs.Answers.{answered}
+use Rattle.book.specs.declared.kind.PostingKind.TheVariants.{Entry}
 use Rattle.book.proofs.Admitted.{none_refused}
 use Rattle.book.proofs.Counted.{taken_reconciled}
 use Rattle.book.proofs.book.Book.enter.Goals as goal
@@ -8,7 +9,7 @@ use Rattle.book.proofs.book.Book.enter.Goals as goal
 pub returns-in_err-month-clause-accepts : goal.returns-in_err-month-clause-accepts
 returns-in_err-month-clause-accepts g c m valid is clear =
     let p = err_from_is_err_and c.from_residual.result c.from_residual.ensures.1 in
-    absurd (none_refused (g.S.Schedule.meaning c.args.self.now.schedule) c.args.self.now.account c.args.file.now m _ valid is clear c.in_err-month.ensures)
+    absurd (none_refused Entry (g.S.Schedule.meaning c.args.self.now.schedule) c.args.self.now.account c.args.file.now m _ valid is clear c.in_err-month.ensures)
 
 pub returns-clause-reconciled : goal.returns-clause-reconciled
 returns-clause-reconciled g c =

@@ -1,0 +1,103 @@
+-- The facts of a book that agrees with the tally of its postings.
+use Rattle.std.proofs.Common.{◌≡◌, ◌↔◌, ℕ, suc, ◌<◌, List, [], ◌∷◌, ◌++◌, map, length, All, Option, Some, None, ap, sym, ◌∙◌, subst, ℤ, pos, slice_get, slice_index_or, arith}
+use Rattle.std.specs.Option.{option_map, option_and_then}
+use Rattle.std.proofs.lemmas.Int.{ints}
+use Rattle.std.proofs.lemmas.List.{length-map, take_all}
+use Rattle.std.proofs.lemmas.Option.{slice_get-get_or, slice_get_past}
+use Rattle.std.proofs.lemmas.Simd.{map-map}
+use Rattle.bounded.specs.declared.up_to.UpTo.{UpTo}
+use Rattle.charges.specs.Meaning.{Meaning, Lawful}
+use Rattle.month.specs.Figures.{Figures}
+use Rattle.month.specs.View.{figures}
+use Rattle.month.specs.declared.month.Month.{Month}
+use Rattle.schedule.specs.Rows.{numbered}
+use Rattle.settlement.specs.Answers.{closing_now}
+use Rattle.settlement.specs.Months.{AllLawful}
+use Rattle.settlement.specs.Numbers.{by_number, int_sum}
+use Rattle.settlement.specs.Rules.{outstanding, total, revenue}
+use Rattle.settlement.specs.declared.amounts.Rate.{Rate}
+use Rattle.settlement.specs.declared.record.Closing.{Closing}
+use Rattle.settlement.specs.declared.record.Record.{Record}
+use Rattle.settlement.specs.declared.standing.Standing.{Standing}
+use Rattle.settlement.specs.declared.standing.Standing.TheVariants.{Correcting}
+use Rattle.book.specs.Account.{Account, held_by, marks_of, closings_of, standing_of}
+use Rattle.book.specs.Facts.{opening_balance, Facts, CorrectionDue, read_of}
+use Rattle.book.specs.Opening.{OpeningNumbers}
+use Rattle.book.specs.Places.{of_month}
+use Rattle.book.specs.Reconciled.{Reconciled, BookReconciled, standing_left}
+use Rattle.book.specs.Sound.{Sound}
+use Rattle.book.specs.Tally.{Posting, Tally, tally}
+use Rattle.book.specs.declared.opened.Opened.{Opened}
+use Rattle.book.proofs.Corrections.{left_correcting}
+use Rattle.book.proofs.Fits.{fit_all_lawful}
+use Rattle.book.proofs.Lengths.{tally_as_long}
+use Rattle.book.proofs.Marks.{last_read}
+use Rattle.book.proofs.OfMonth.{of_month_map}
+use Rattle.book.proofs.Rounding.{rest_bounded}
+use Rattle.book.proofs.Ruled.{all_by_rule}
+use Rattle.book.proofs.Sums.{outstanding_is_balance}
+
+module _ (row : List Meaning) (o : OpeningNumbers) (ps : List Posting) (a : Account) (r : Reconciled row o ps a) where
+  abbrev counted : Tally
+  counted = tally o ps
+
+  -- what is outstanding of mechanism i, by the tally
+  abbrev due : ℕ → ℤ
+  due i = outstanding (numbered row i) i (opening_balance o i) counted.months counted.billed
+
+  as_many : length a.balances ≡ length row
+  as_many = ap length r.balances ∙ r.mechanisms.1
+
+  tells : (i : ℕ) → i < length row → option_map (λ opening. outstanding (numbered row i) i opening a.months a.billed) (slice_get a.balances i) ≡ Some (due i)
+  tells i inside =
+      ap (option_map (λ opening. outstanding (numbered row i) i opening a.months a.billed)) (slice_get-get_or a.balances i (pos 0) (omega (arith, as_many)))
+      ∙ (λ j. Some (outstanding (numbered row i) i (slice_index_or (r.balances j) i (pos 0)) (r.counted j).months (r.counted j).billed))
+
+  all_due : total row a.balances a.months a.billed ≡ int_sum (by_number due (length row))
+  all_due = (λ j. total row (r.balances j) (r.counted j).months (r.counted j).billed) ∙ ap (λ n. int_sum (by_number due n)) r.mechanisms.1
+
+  -- the last closing figures are those of the months as they stand
+  last_closing : (before : List Closing) (c : Closing) → counted.closings ≡ before ++ c ∷ [] → c ≡ closing_now row a.balances a.months a.billed
+  last_closing before c is =
+      let last = last_read (λ (x : Record). x.closing) a.records before c (ap (λ t. t.closings) r.counted ∙ is) in
+      sym last.3 ∙ r.closed last.0 last.1 last.2
+
+  standing_is : standing_of a ≡ standing_left counted.closings
+  standing_is =
+      r.standings (length a.records) (omega arith)
+      ∙ ap standing_left (take_all (length a.records) (closings_of a) (omega (arith, length-map a.records (λ (x : Record). x.closing))) ∙ ap (λ t. t.closings) r.counted)
+
+  pub facts : map (λ m. m.month) a.months ≡ by_number suc (length a.months) → ((i : ℕ) → i < length row → AllLawful (numbered row i) a.months) → Facts row o ps (read_of row (Some a))
+  facts in_order lawful = record {
+    mechanisms = r.mechanisms;
+    outstanding = due;
+    tells = tells;
+    tells_no_other = λ i past. ap (option_map (λ opening. outstanding (numbered row i) i opening a.months a.billed)) (slice_get_past a.balances i (omega (arith, as_many)));
+    total = ap Some all_due;
+    marks = marks_of a;
+    marks_told = λ month. sym (of_month_map (λ (x : Record). x.mark) a.records month);
+    all_marked = length-map a.records (λ (x : Record). x.mark) ∙ r.recorded ∙ ap (λ t. length t.months) r.counted;
+    all_billed = (tally_as_long o ps).billed;
+    all_closed = (tally_as_long o ps).closings;
+    announced_told = λ i. ap (λ t. slice_get t.announced i) r.counted;
+    billed_told = λ month i. ap (λ t. option_and_then (λ rates. slice_get rates i) (of_month t.billed month)) r.counted;
+    closing_told = λ month. sym (of_month_map (λ (x : Record). x.closing) a.records month) ∙ ap (λ t. of_month t.closings month) r.counted;
+    files = r.files;
+    in_order = subst (λ (t : Tally). map (λ m. m.month) t.months ≡ by_number suc (length t.months)) r.counted in_order;
+    balanced = λ i inside. let balance = outstanding_is_balance o counted (numbered row i) i in omega (arith, ints, balance);
+    closing_total = λ before c is. ap (λ x. x.total) (last_closing before c is) ∙ all_due;
+    closing_revenue = λ before c is. ap (λ x. x.revenue) (last_closing before c is) ∙ ap (λ n. revenue row n a.months) as_many ∙ ap (λ t. revenue row (length row) t.months) r.counted;
+    by_rule = all_by_rule row o r.mechanisms.1 ps r.by_rule;
+    rounded_down = λ i inside. rest_bounded o (numbered row i) i counted (due i) (outstanding_is_balance o counted (numbered row i) i) (subst (λ (t : Tally). AllLawful (numbered row i) t.months) r.counted (lawful i inside));
+    in_force = subst (λ (s : Standing). (s ≡ Correcting) ↔ CorrectionDue counted.closings) (sym standing_is) (left_correcting counted.closings);
+  }
+
+-- a book that keeps what every book keeps, over lawful mechanisms
+pub book_facts : (row : List Meaning) (opened : Option Opened) (months : List Month) (billed : List (UpTo Rate 8)) (records : List Record) → All Lawful row → Sound row opened months billed records → (o : OpeningNumbers) (ps : List Posting) → BookReconciled row o ps (held_by opened months billed records) → Facts row o ps (read_of row (held_by opened months billed records))
+book_facts row None months billed records laws sound o ps r = absurd r
+book_facts row (Some x) months billed records laws sound o ps r =
+    let ms : List Figures = map figures months in
+    let long : length ms ≡ length months = length-map months figures in
+    facts row o ps _ r
+    (map-map (λ m. m.month) figures months ∙ sound.in_order ∙ ap (by_number suc) (sym long))
+    (λ i inside. fit_all_lawful row ms i laws sound.fit (omega (arith, long, sound.few)) inside)

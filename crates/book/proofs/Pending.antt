@@ -1,0 +1,54 @@
+-- Which filings are left pending.
+use Rattle.std.proofs.Common.{◌≡◌, ℕ, zero, suc, Bool, true, false, List, [], ◌∷◌, ◌++◌, Option, Some, None, slice_get, refl, ap, sym, ◌∙◌}
+use Rattle.std.specs.Option.{option_map}
+use Rattle.std.proofs.lemmas.Bool.{and_parts, false≢true}
+use Rattle.fields.proofs.Asked.{all_yes}
+use Rattle.settlement.specs.declared.record.Mark.{Mark}
+use Rattle.settlement.specs.declared.record.Mark.TheVariants.{Pending, Filed, Missed}
+use Rattle.settlement.specs.declared.record.Record.{Record}
+use Rattle.book.specs.Account.{Account}
+use Rattle.book.specs.Duties.{is_pending, pends, is_owed, duty_asked, Spent}
+use Rattle.book.specs.Places.{of_month, changed_at, changed_month}
+use Rattle.book.specs.declared.duty.Duty.{Duty}
+
+-- no record at any place pends
+abbrev NoneAt : List Record → Type 0
+NoneAt rs = (place : ℕ) → option_map (λ r. r.mark) (slice_get rs place) ≡ Some Pending → ⊥
+
+-- the same by the number of a month
+abbrev pub NoneOf : List Record → Type 0
+NoneOf rs = (month : ℕ) → option_map (λ r. r.mark) (of_month rs month) ≡ Some Pending → ⊥
+
+mark_is_pending : (m : Mark) → is_pending m ≡ true → m ≡ Pending
+mark_is_pending Pending is = refl
+mark_is_pending Filed is = absurd (false≢true is)
+mark_is_pending Missed is = absurd (false≢true is)
+
+abbrev is_told_pending : Option Mark → Bool
+is_told_pending None = false
+is_told_pending (Some mark) = is_pending mark
+
+module _ (mark : Mark) (ends : is_pending mark ≡ false) where
+  abbrev with_mark : Record → Record
+  with_mark r = record r { mark = mark }
+
+  -- where none pended before one was added, the one that pends is the one added; with this mark it does not, and then none pends
+  none_at_once_marked : (rs : List Record) (added : Record) (place : ℕ) → NoneAt rs → pends (slice_get (rs ++ added ∷ []) place) ≡ true → NoneAt (changed_at with_mark place (rs ++ added ∷ []))
+  none_at_once_marked [] added zero none pending zero is = false≢true (sym ends ∙ ap is_told_pending is)
+  none_at_once_marked [] added zero none pending (suc n) is = cc
+  none_at_once_marked [] added (suc place) none pending n is = absurd (false≢true pending)
+  none_at_once_marked (r ∷ rs) added zero none pending n is = none zero (ap Some (mark_is_pending r.mark pending))
+  none_at_once_marked (r ∷ rs) added (suc place) none pending zero is = none zero is
+  none_at_once_marked (r ∷ rs) added (suc place) none pending (suc n) is = none_at_once_marked rs added place (λ k. none (suc k)) pending n is
+
+  pub none_once_marked : (rs : List Record) (added : Record) (month : ℕ) → NoneOf rs → pends (of_month (rs ++ added ∷ []) month) ≡ true → NoneOf (changed_month with_mark month (rs ++ added ∷ []))
+  none_once_marked rs added zero none pending month is = absurd (false≢true pending)
+  none_once_marked rs added (suc place) none pending zero is = cc
+  none_once_marked rs added (suc place) none pending (suc n) is = none_at_once_marked rs added place (λ k. none (suc k)) pending n is
+
+-- a duty that is spent was owed
+pub owed : {before after : Option Account} {duty : Duty} {mark : Mark} → Spent before after duty mark → is_owed before duty ≡ true
+owed {before} {after} {duty} spent = (all_yes (duty_asked before duty) spent.asked).0
+
+pub owed_pends : (a : Account) (duty : Duty) → is_owed (Some a) duty ≡ true → pends (of_month a.records duty.month) ≡ true
+owed_pends a duty is = (and_parts _ _ is).1
