@@ -1,7 +1,7 @@
 // Reads a stream of frames from standard input, works them on a book, and prints a line for each.
 #![tactic(auto)]
 
-use printed::{closed_book, write_run};
+use printed::NewBook;
 use std::io::{Read, Write};
 
 // Ends with status 1, and says why on standard error, only where standard input cannot be read, standard output cannot be written, or memory
@@ -9,9 +9,10 @@ use std::io::{Read, Write};
 fn main(rt: HostRuntime) -> anyhow::Result<()> {
     let mut stream = Vec::new(rt.alloc());
     rt.stdin().read_to_end(&mut stream)?;
-    let mut book = closed_book(rt.alloc())?;
+    let book = NewBook::new(rt.alloc())?;
     let mut lines = Vec::new(rt.alloc());
-    let ran = write_run(&mut book, stream.as_slice(), &mut lines);
+    let ran = book.run(stream.as_slice(), &mut lines);
     rt.stdout().write_all(lines.as_slice())?;
-    Ok(ran?)
+    ran?;
+    Ok(())
 }

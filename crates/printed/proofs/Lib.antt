@@ -1,5 +1,6 @@
 pub mod Openings
 pub mod Streams
+pub mod Journals
 pub mod Runs
 pub mod Lines
 pub mod Numerals

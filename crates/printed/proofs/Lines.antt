@@ -10,15 +10,15 @@ use Rattle.fields.specs.Words.{layer_word, refusal_words}
 use Rattle.fields.specs.declared.refusal.Layer.{Layer}
 use Rattle.fields.specs.declared.refusal.Layer.TheVariants.{File, Month, Book}
 use Rattle.fields.specs.declared.refusal.Refusal.{Refusal}
-use Rattle.settlement.specs.Answers.{answered}
+use Rattle.settlement.specs.Answers.{Answered, answered}
 use Rattle.settlement.specs.Words.{standing_word}
 use Rattle.settlement.specs.declared.standing.Standing.{Standing}
 use Rattle.settlement.specs.declared.standing.Standing.TheVariants.{Steady, Correcting}
-use Rattle.printed.specs.Lines.{call_letter, letter, told_fields, spaced, line_bytes, OneLine}
+use Rattle.printed.specs.Lines.{call_letter, letter, answer_fields, told_fields, spaced, line_bytes, OneLine}
 use Rattle.printed.specs.declared.call.Call.{Call}
-use Rattle.printed.specs.declared.call.Call.TheVariants.{Opening, Entry}
+use Rattle.printed.specs.declared.call.Call.TheVariants.{Opening, Entry, Amendment}
 use Rattle.printed.specs.declared.line.Line.{Line}
-use Rattle.printed.specs.declared.line.Line.TheVariants.{Opened, Entered, Refused, NoFrame}
+use Rattle.printed.specs.declared.line.Line.TheVariants.{Opened, Entered, Amended, Refused, NoFrame}
 
 -- every other byte of a line is above 10
 abbrev Above : ℕ → Type 0
@@ -52,10 +52,12 @@ signed_above (negsuc n) = All-cons Above 45 (decimal (suc n)) (omega arith) (dec
 call_above : (c : Call) → AllAbove (call_letter c)
 call_above Opening = All-from_recursion Above (codes "O") (search rules)
 call_above Entry = All-from_recursion Above (codes "E") (search rules)
+call_above Amendment = All-from_recursion Above (codes "A") (search rules)
 
 letter_above : (l : Line) → AllAbove (letter l)
 letter_above (Opened number) = call_above Opening
 letter_above (Entered month answer) = call_above Entry
+letter_above (Amended month answer) = call_above Amendment
 letter_above (Refused call refusal) = call_above call
 letter_above (NoFrame at) = All-from_recursion Above (codes "X") (search rules)
 
@@ -83,10 +85,8 @@ rates_above : (zs : List ℤ) (fs : List (List ℕ)) → AllAbove (spaced fs) �
 rates_above [] fs rest = rest
 rates_above (z ∷ zs) fs rest = field_above (signed_decimal z) (map signed_decimal zs ++ fs) (signed_above z) (rates_above zs fs rest)
 
-fields_above : (l : Line) → AllAbove (spaced (told_fields l))
-fields_above (Opened number) = field_above (decimal number) [] (decimal_above number) (All-nil Above)
-fields_above (Entered month answer) =
-    let a = answered answer in
+answer_above : (month : ℕ) (a : Answered) → AllAbove (spaced (answer_fields month a))
+answer_above month a =
     let standing = standing_word a.standing ∷ [] in
     let revenue = decimal a.closing.revenue ∷ standing in
     let total = signed_decimal a.closing.total ∷ revenue in
@@ -94,6 +94,11 @@ fields_above (Entered month answer) =
     let two = field_above (decimal a.closing.revenue) standing (decimal_above a.closing.revenue) last in
     let three = field_above (signed_decimal a.closing.total) revenue (signed_above a.closing.total) two in
     field_above (decimal month) (map signed_decimal a.rates ++ total) (decimal_above month) (rates_above a.rates total three)
+
+fields_above : (l : Line) → AllAbove (spaced (told_fields l))
+fields_above (Opened number) = field_above (decimal number) [] (decimal_above number) (All-nil Above)
+fields_above (Entered month answer) = answer_above month (answered answer)
+fields_above (Amended month answer) = answer_above month (answered answer)
 fields_above (Refused call refusal) = field_above (refusal_words refusal) [] (refusal_above refusal) (All-nil Above)
 fields_above (NoFrame at) = field_above (decimal at) [] (decimal_above at) (All-nil Above)
 

@@ -4,35 +4,38 @@ use Rattle.std.specs.List.{All, flat_map}
 use Rattle.std.proofs.lemmas.List.Elements.{All-head, All-tail}
 use Rattle.book.specs.Account.{Account}
 use Rattle.book.specs.Duties.{marked_book}
-use Rattle.book.specs.Entering.{Entered, EntryRefused, entry_asked, all_asked, answer_to, with_month}
+use Rattle.book.specs.Amending.{answer_now, replaced, settled_now}
+use Rattle.book.specs.Entering.{answer_to, with_month}
 use Rattle.book.specs.Opening.{Given}
+use Rattle.book.specs.Postings.{posting_asked, all_asked, PostingRefused}
 use Rattle.book.specs.Refusals.{book_refusal}
-use Rattle.book.specs.declared.duty.Duty.{Duty}
 use Rattle.book.specs.declared.fault.BookFault.{BookFault}
 use Rattle.book.specs.declared.fault.BookFault.TheVariants.{Month}
+use Rattle.book.specs.declared.kind.PostingKind.{PostingKind}
+use Rattle.book.specs.declared.kind.PostingKind.TheVariants.{Entry, Amendment}
+use Rattle.book.proofs.Admitted.{none_refused}
 use Rattle.charges.specs.Meaning.{Meaning}
 use Rattle.fields.specs.Questions.{first_no, carried}
-use Rattle.fields.proofs.Asked.{first_no_after, first_no_stop, carried_none, carried_some, some_none}
+use Rattle.fields.proofs.Asked.{first_no_stop, carried_some, some_none}
 use Rattle.month.specs.Asked.{month_asked}
 use Rattle.month.specs.Figures.{Figures}
-use Rattle.month.specs.Validity.{yes_from_valid}
 use Rattle.month.specs.declared.fault.FileFault.{FileFault}
 use Rattle.month.specs.declared.fault.MonthFault.TheVariants.{File}
 use Rattle.monthfile.specs.Questions.{file_asked, asked}
 use Rattle.monthfile.proofs.Exact.{file_same}
-use Rattle.monthfile.proofs.Sound.{asked_none}
-use Rattle.settlement.specs.Answers.{Answered, answered}
+use Rattle.settlement.specs.Answers.{answered}
 use Rattle.settlement.specs.declared.answer.Answer.{Answer}
 use Rattle.settlement.specs.declared.record.Mark.TheVariants.{Filed}
 use Rattle.printed.specs.Frames.{Framed, WellFormed, frame_bytes, BeginsNoFrame}
-use Rattle.printed.specs.Frames.Framed.{Opens, Enters}
+use Rattle.printed.specs.Frames.Framed.{Opens, Enters, Amends}
 use Rattle.printed.specs.Lines.{line_bytes, answer_fields, letter, spaced}
-use Rattle.printed.specs.Runs.{State, EntersBy, Works, Exchange, WorksAll, lines_of, Worked, Ends, Printed, NextLine, LacksRoom}
+use Rattle.printed.specs.Runs.{State, EntersBy, AmendsBy, Works, Exchange, WorksAll, lines_of, Ends, Printed, NextLine, LacksRoom}
+use Rattle.printed.specs.declared.call.Call.{Call}
 use Rattle.printed.specs.declared.call.Call.TheVariants as call
 use Rattle.printed.specs.declared.line.Line.{Line}
 use Rattle.printed.specs.declared.line.Line.TheVariants as line
 use Rattle.printed.proofs.Prefixes.{frame_same, opening_long}
-use Rattle.printed.proofs.Runs.{also, lines_also}
+use Rattle.printed.proofs.Runs.{lines_also}
 
 some_same : {F : Type 0} {x y : F} → Some x ≡ Some y → x ≡ y
 some_same e = cc
@@ -42,33 +45,27 @@ pub record Same (x y : Line) (a b : State) : Type 0 where
   pub line : line_bytes x ≡ line_bytes y
   pub state : a ≡ b
 
-module _ (row : List Meaning) (account : Option Account) (file : List ℕ) where
-  -- of what is entered, no question is answered no
-  asked_of_entered : {after : Option Account} {answer : Answered} {duty : Duty} → (e : Entered row account after file answer duty) → first_no (all_asked row account file e.stated) ≡ None
-  asked_of_entered e =
-      let none = asked_none file e.stated e.valid.counted e.file_states in
-      let month = first_no_after (carried File (file_asked file)) (month_asked e.stated) (carried_none File (file_asked file) none) ∙ yes_from_valid e.stated e.valid in
-      first_no_after (carried Month (asked file e.stated)) (entry_asked row account e.stated) (carried_none Month (asked file e.stated) month) ∙ e.asked
-
-  not_entered_and_refused : {after : Option Account} {answer : Answered} {duty : Duty} {d : BookFault} → Entered row account after file answer duty → EntryRefused row account file d → ⊥
-  not_entered_and_refused e r =
-      let none = asked_none file e.stated e.valid.counted e.file_states in
-      let same = file_same r.asked_of e.stated (sym (r.states none).is ∙ e.file_states) in
-      some_none (sym r.first ∙ ap (λ f. first_no (all_asked row account file f)) same ∙ asked_of_entered e)
-
+module _ (kind : PostingKind) (row : List Meaning) (account : Option Account) (file : List ℕ) where
   -- where one of questions 1 to 5 is answered no, the fault is the file's, whatever figures the others are asked of
-  fault_of_file : (x : FileFault) (f : Figures) (d : BookFault) → first_no (file_asked file) ≡ Some x → first_no (all_asked row account file f) ≡ Some d → Month (File x) ≡ d
+  fault_of_file : (x : FileFault) (f : Figures) (d : BookFault) → first_no (file_asked file) ≡ Some x → first_no (all_asked kind row account file f) ≡ Some d → Month (File x) ≡ d
   fault_of_file x f d is first =
       let month = first_no_stop (carried File (file_asked file)) (month_asked f) (File x) (carried_some File (file_asked file) x is) in
-      let whole = first_no_stop (carried Month (asked file f)) (entry_asked row account f) (Month (File x)) (carried_some Month (asked file f) (File x) month) in
+      let whole = first_no_stop (carried Month (asked file f)) (posting_asked kind row account f) (Month (File x)) (carried_some Month (asked file f) (File x) month) in
       some_same (sym whole ∙ first)
 
   -- and where none is, the others are asked of the figures that the file states
-  fault_same : (o : Option FileFault) (d e : BookFault) → first_no (file_asked file) ≡ o → EntryRefused row account file d → EntryRefused row account file e → d ≡ e
+  fault_same : (o : Option FileFault) (d e : BookFault) → first_no (file_asked file) ≡ o → PostingRefused kind row account file d → PostingRefused kind row account file e → d ≡ e
   fault_same None d e is r s =
       let same = file_same r.asked_of s.asked_of (sym (r.states is).is ∙ (s.states is).is) in
-      some_same (sym r.first ∙ ap (λ f. first_no (all_asked row account file f)) same ∙ s.first)
+      some_same (sym r.first ∙ ap (λ f. first_no (all_asked kind row account file f)) same ∙ s.first)
   fault_same (Some x) d e is r s = sym (fault_of_file x r.asked_of d is r.first) ∙ fault_of_file x s.asked_of e is s.first
+
+-- a posting that is refused is refused with one fault
+refused_once : (kind : PostingKind) (told : Call) (before : State) (file : List ℕ) (x y : Line) (a b : State) (d e : BookFault) → x ≡ line.Refused told (book_refusal d) → y ≡ line.Refused told (book_refusal e) → PostingRefused kind before.charges before.account file d → PostingRefused kind before.charges before.account file e → a ≡ before → b ≡ before → Same x y a b
+refused_once kind told before file x y a b d e p q r s same_a same_b =
+    let fault : d ≡ e = fault_same kind before.charges before.account file (first_no (file_asked file)) d e refl r s in
+    let lines : x ≡ y = p ∙ ap (λ f. line.Refused told (book_refusal f)) fault ∙ sym q in
+    record { line = ap line_bytes lines; state = same_a ∙ sym same_b }
 
 module _ (before : State) (file : List ℕ) where
   entered_once : (m n : ℕ) (x y : Answer) (a b : State) → EntersBy before file m x a → EntersBy before file n y b → Same (line.Entered m x) (line.Entered n y) a b
@@ -86,16 +83,40 @@ module _ (before : State) (file : List ℕ) where
         state = λ i. record { charges = row i; account = held i };
       }
 
+  amended_once : (m n : ℕ) (x y : Answer) (a b : State) → AmendsBy before file m x a → AmendsBy before file n y b → Same (line.Amended m x) (line.Amended n y) a b
+  amended_once m n x y a b p q =
+      let stated : p.amends.stated ≡ q.amends.stated = file_same _ _ (sym p.amends.file_states ∙ q.amends.file_states) in
+      let account : p.amends.account ≡ q.amends.account = some_same (sym p.amends.open_before ∙ q.amends.open_before) in
+      let answer : answered x ≡ answered y = p.amends.answer_is ∙ (λ i. answer_now before.charges (replaced (stated i) (account i))) ∙ sym q.amends.answer_is in
+      let month : m ≡ n = p.amends.month_is ∙ ap (λ f. f.month) stated ∙ sym q.amends.month_is in
+      let held : a.account ≡ b.account = p.amends.book ∙ (λ i. Some (settled_now before.charges (replaced (stated i) (account i)))) ∙ sym q.amends.book in
+      let row : a.charges ≡ b.charges = p.charges ∙ sym q.charges in
+      record {
+        line = λ i. letter (line.Amended m x) ++ (spaced (answer_fields (month i) (answer i)) ++ 10 ∷ []);
+        state = λ i. record { charges = row i; account = held i };
+      }
+
+  entered_not_refused : {m : ℕ} {x : Answer} {a : State} {d : BookFault} → EntersBy before file m x a → PostingRefused Entry before.charges before.account file d → ⊥
+  entered_not_refused {m} {x} {a} {d} p r = none_refused Entry before.charges before.account file p.enters.stated d p.enters.valid p.enters.file_states p.enters.asked r
+
+  amended_not_refused : {m : ℕ} {x : Answer} {a : State} {d : BookFault} → AmendsBy before file m x a → PostingRefused Amendment before.charges before.account file d → ⊥
+  amended_not_refused {m} {x} {a} {d} p r = none_refused Amendment before.charges before.account file p.amends.stated d p.amends.valid p.amends.file_states p.amends.asked r
+
   entry_once : (x y : Line) (a b : State) → Works before (Enters file) x a → Works before (Enters file) y b → Same x y a b
   entry_once x y a b (inl p) (inl q) =
       let same = entered_once p.0 q.0 p.1 q.1 a b p.3 q.3 in
       record { line = ap line_bytes p.2 ∙ same.line ∙ sym (ap line_bytes q.2); state = same.state }
-  entry_once x y a b (inl p) (inr q) = absurd (not_entered_and_refused before.charges before.account file p.3.enters q.2.refuses)
-  entry_once x y a b (inr p) (inl q) = absurd (not_entered_and_refused before.charges before.account file q.3.enters p.2.refuses)
-  entry_once x y a b (inr p) (inr q) =
-      let fault : p.0 ≡ q.0 = fault_same before.charges before.account file (first_no (file_asked file)) p.0 q.0 refl p.2.refuses q.2.refuses in
-      let told : x ≡ y = p.1 ∙ ap (λ d. line.Refused call.Entry (book_refusal d)) fault ∙ sym q.1 in
-      record { line = ap line_bytes told; state = p.2.same ∙ sym q.2.same }
+  entry_once x y a b (inl p) (inr q) = absurd (entered_not_refused p.3 q.2.refuses)
+  entry_once x y a b (inr p) (inl q) = absurd (entered_not_refused q.3 p.2.refuses)
+  entry_once x y a b (inr p) (inr q) = refused_once Entry call.Entry before file x y a b p.0 q.0 p.1 q.1 p.2.refuses q.2.refuses p.2.same q.2.same
+
+  amendment_once : (x y : Line) (a b : State) → Works before (Amends file) x a → Works before (Amends file) y b → Same x y a b
+  amendment_once x y a b (inl p) (inl q) =
+      let same = amended_once p.0 q.0 p.1 q.1 a b p.3 q.3 in
+      record { line = ap line_bytes p.2 ∙ same.line ∙ sym (ap line_bytes q.2); state = same.state }
+  amendment_once x y a b (inl p) (inr q) = absurd (amended_not_refused p.3 q.2.refuses)
+  amendment_once x y a b (inr p) (inl q) = absurd (amended_not_refused q.3 p.2.refuses)
+  amendment_once x y a b (inr p) (inr q) = refused_once Amendment call.Amendment before file x y a b p.0 q.0 p.1 q.1 p.2.refuses q.2.refuses p.2.same q.2.same
 
 opening_once : (before : State) (k : ℕ) (g : Given) (x y : Line) (a b : State) → Works before (Opens k g) x a → Works before (Opens k g) y b → Same x y a b
 opening_once before k g x y a b (inl p) (inl q) = record { line = ap line_bytes (p.0 ∙ sym q.0); state = p.1.book ∙ sym q.1.book }
@@ -110,6 +131,7 @@ opening_once before k g x y a b (inr p) (inr q) =
 works_once : (before : State) (f : Framed) (x y : Line) (a b : State) → Works before f x a → Works before f y b → Same x y a b
 works_once before (Opens k g) x y a b p q = opening_once before k g x y a b p q
 works_once before (Enters file) x y a b p q = entry_once before file x y a b p q
+works_once before (Amends file) x y a b p q = amendment_once before file x y a b p q
 
 -- no frame is next
 abbrev NoFrameNext : List ℕ → Type 0
@@ -118,10 +140,12 @@ NoFrameNext rest = (f : Framed) (later : List ℕ) → WellFormed f → rest ≡
 begins_no_frame : (rest : List ℕ) → BeginsNoFrame rest → NoFrameNext rest
 begins_no_frame rest begins (Opens k g) later formed is = begins.no_opening _ later (opening_long k g formed) is
 begins_no_frame rest begins (Enters file) later formed is = begins.no_entry file later formed is
+begins_no_frame rest begins (Amends file) later formed is = begins.no_amendment file later formed is
 
 nothing_left : NoFrameNext []
 nothing_left (Opens k g) later formed is = omega (arith, ap length is)
 nothing_left (Enters file) later formed is = omega (arith, ap length is)
+nothing_left (Amends file) later formed is = omega (arith, ap length is)
 
 no_frame_next : (input rest last : List ℕ) → Ends input rest last → NoFrameNext rest
 no_frame_next input [] last ends = nothing_left
@@ -177,17 +201,17 @@ lines_begin before (x ∷ xs) (y ∷ ys) r s a b f g n e p q =
 
 -- where a run broke off, its output is a beginning of that one
 module _ (before : State) (input : List ℕ) (room : ℕ) (old new out : List ℕ) (a b : State) (broken : LacksRoom before input room old new a) (whole : Printed before input old out b) where
-  begins_by : (xs : List Exchange) (r : List ℕ) (more : List ℕ) → Worked before input xs r a → lines_of xs ≡ lines_of broken.printed ++ more → (later : List ℕ) × (out ≡ new ++ later)
-  begins_by xs r more worked lines =
-      let begin = lines_begin before xs whole.exchanges r whole.rest a b worked.formed whole.worked.formed (no_frame_next input whole.rest whole.last whole.ends) (sym worked.split ∙ whole.worked.split) worked.works whole.worked.works in
+  begins_by : (more : List ℕ) → lines_of broken.exchanges ≡ lines_of broken.printed ++ more → (later : List ℕ) × (out ≡ new ++ later)
+  begins_by more lines =
+      let begin = lines_begin before broken.exchanges whole.exchanges broken.rest whole.rest a b broken.worked.formed whole.worked.formed (no_frame_next input whole.rest whole.last whole.ends) (sym broken.worked.split ∙ whole.worked.split) broken.worked.works whole.worked.works in
       let later : List ℕ = more ++ (begin.0 ++ whole.last) in
       let same : lines_of whole.exchanges ++ whole.last ≡ lines_of broken.printed ++ later =
       ap (λ l. l ++ whole.last) (begin.1 ∙ ap (λ l. l ++ begin.0) lines) ∙ append_assoc (lines_of broken.printed ++ more) begin.0 whole.last ∙ append_assoc (lines_of broken.printed) more (begin.0 ++ whole.last) in
       (later, whole.output ∙ ap (λ l. old ++ l) same ∙ sym (append_assoc old (lines_of broken.printed) later) ∙ ap (λ l. l ++ later) (sym broken.output))
 
-  begins_with : NextLine before input broken.printed broken.unprinted a → (later : List ℕ) × (out ≡ new ++ later)
-  begins_with (inl next) = begins_by (also broken.printed next.0 broken.unprinted) next.1 (line_bytes broken.unprinted) next.2 (lines_also broken.printed next.0 broken.unprinted)
-  begins_with (inr next) = begins_by broken.printed next.0 [] next.1 (sym (append-nil (lines_of broken.printed)))
+  begins_with : NextLine input broken.exchanges broken.rest broken.printed broken.unprinted → (later : List ℕ) × (out ≡ new ++ later)
+  begins_with (inl next) = begins_by (line_bytes broken.unprinted) (ap lines_of next.1 ∙ lines_also broken.printed next.0 broken.unprinted)
+  begins_with (inr next) = begins_by [] (ap lines_of next.0 ∙ sym (append-nil (lines_of broken.printed)))
 
   begins_whole : (later : List ℕ) × (out ≡ new ++ later)
   begins_whole = begins_with broken.next

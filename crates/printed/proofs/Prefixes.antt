@@ -1,5 +1,5 @@
 -- Frames are told apart by their bytes, also where other bytes follow.
-use Rattle.std.proofs.Common.{◌≡◌, ℕ, List, [], ◌∷◌, ◌++◌, map, length, ℤ, refl, ap, sym, ◌∙◌, arith, length-append}
+use Rattle.std.proofs.Common.{◌≡◌, ℕ, List, [], ◌∷◌, ◌++◌, map, length, ℤ, get_or, refl, ap, sym, ◌∙◌, arith, length-append}
 use Rattle.std.specs.Int.{cast_signed, w64}
 use Rattle.std.specs.List.{All}
 use Rattle.std.specs.Prelude.{FitsSigned}
@@ -10,7 +10,7 @@ use Rattle.book.specs.Opening.{Given}
 use Rattle.fields.specs.Bytes.{eights}
 use Rattle.fields.proofs.Rows.{cut_same, field_same, length_eights, eights_same}
 use Rattle.printed.specs.Frames.{Framed, WellFormed, twos_complement, opening_value, frame_bytes}
-use Rattle.printed.specs.Frames.Framed.{Opens, Enters}
+use Rattle.printed.specs.Frames.Framed.{Opens, Enters, Amends}
 
 -- numbers that fit 64 bits are told apart by their two's complements
 twos_complement_same : (y z : ℤ) → FitsSigned w64 y → FitsSigned w64 z → twos_complement y ≡ twos_complement z → y ≡ z
@@ -39,19 +39,32 @@ opening_same k l g h p q e =
     let number : g.number ≡ h.number = cc in
     λ i. Opens (cap_is i) (record { number = number i; spread = spread i; rates = rates i; balances = balances i })
 
-tags_differ : {bs cs : List ℕ} → 15 ∷ bs ≡ 16 ∷ cs → ⊥
-tags_differ e = let same : ◌≡◌ {A = ℕ} 15 16 = cc in omega arith
+-- the tag that a frame begins with
+abbrev tag_of : Framed → ℕ
+tag_of (Opens k g) = 15
+tag_of (Enters file) = 16
+tag_of (Amends file) = 17
+
+first_byte : (f : Framed) (r : List ℕ) → get_or (frame_bytes f ++ r) 0 0 ≡ tag_of f
+first_byte (Opens k g) r = refl
+first_byte (Enters file) r = refl
+first_byte (Amends file) r = refl
+
+tags_same : (f g : Framed) (r s : List ℕ) → frame_bytes f ++ r ≡ frame_bytes g ++ s → tag_of f ≡ tag_of g
+tags_same f g r s e = sym (first_byte f r) ∙ ap (λ l. get_or l 0 0) e ∙ first_byte g s
 
 -- bytes that begin with a frame begin with no other
 pub frame_same : (f g : Framed) (r s : List ℕ) → WellFormed f → WellFormed g → frame_bytes f ++ r ≡ frame_bytes g ++ s → (f ≡ g) × (r ≡ s)
 frame_same (Opens k g) (Opens l h) r s p q e =
     let parts = field_same 15 (opening_value k g) (opening_value l h) r s e in
     (opening_same k l g h p q parts.0, parts.1)
-frame_same (Opens k g) (Enters file) r s p q e = absurd (tags_differ e)
-frame_same (Enters file) (Opens l h) r s p q e = absurd (tags_differ (sym e))
 frame_same (Enters v) (Enters w) r s p q e =
     let parts = field_same 16 v w r s e in
     (ap Enters parts.0, parts.1)
+frame_same (Amends v) (Amends w) r s p q e =
+    let parts = field_same 17 v w r s e in
+    (ap Amends parts.0, parts.1)
+frame_same f g r s p q e = absurd (omega (arith, tags_same f g r s e))
 
 -- an opening's value has 88 bytes
 pub opening_long : (k : ℕ) (g : Given) → WellFormed (Opens k g) → length (opening_value k g) ≡ 88

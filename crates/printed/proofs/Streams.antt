@@ -1,4 +1,4 @@
--- A stream goes on with a frame exactly where the reader finds one of the two due fields.
+-- A stream goes on with a frame exactly where the reader finds the field that is due by its next tag.
 use Rattle.std.proofs.Common.{◌≡◌, ℕ, ◌+◌, ◌<◌, Bool, true, false, List, [], ◌∷◌, ◌++◌, length, take, drop, ◌==◌, nat_le, slice_get, slice_index, get_or, Some, None, refl, ap, sym, ◌∙◌, subst, arith, length-drop, take-append-drop, length-take-le, add-zero}
 use Rattle.std.proofs.lemmas.Option.{slice_get_within, get_or_from_slice_get}
 use Rattle.std.proofs.lemmas.List.{get_or-drop}
@@ -14,12 +14,18 @@ use Rattle.fields.proofs.Present.{field_present}
 use Rattle.printed.specs.Frames.{NoFrameAt}
 use Rattle.printed.specs.declared.no_frame.NoFrame.{NoFrame}
 
--- what an opening is read as, and what an entry is
+-- what an opening is read as, and what an entry or an amendment is
 abbrev pub opening_due : Due
 opening_due = record { tag = 15; each = 88; least = 1; most = 1 }
 
-abbrev pub entry_due : Due
-entry_due = record { tag = 16; each = 1; least = 0; most = 65535 }
+abbrev pub file_due : ℕ → Due
+file_due tag = record { tag = tag; each = 1; least = 0; most = 65535 }
+
+opening_parts : (n : ℕ) → n ≡ 88 → Parts opening_due n
+opening_parts n long = record { count = 1; some = omega arith; whole = long; enough = omega arith; few = omega arith }
+
+file_parts : (tag n : ℕ) → n < 65536 → Parts (file_due tag) n
+file_parts tag n short = record { count = n; some = omega arith; whole = omega arith; enough = omega arith; few = omega arith }
 
 -- any fault of a field has the offset of its head
 module _ (p : ℕ) (e : FieldFault) where
@@ -56,30 +62,22 @@ module _ (bs : List ℕ) (p : ℕ) (tag : ℕ) (next : slice_get bs p ≡ Some t
       let yes : first_no (field_asked bs p d) ≡ None = subst (λ (i : ℕ). first_no (field_asked bs i d) ≡ None) at (field_present bs (take p bs) value later d whole parts) in
       some_none (sym stopped ∙ yes)
 
-  module _ (q : ℕ) (e : FieldFault) (told : NoFrame) (place : told.at ≡ (field_refusal e).place) where
-    some : 0 < length (drop p bs)
-    some = rw length-drop (omega (arith, within))
+  module _ (q : ℕ) (e : FieldFault) (due : Due) (stopped : Stopped bs p q due e) where
+    -- where a field is not found, none stands that would have been due by the tag
+    not_there : (d : Due) (value later : List ℕ) → Parts d (length value) → (d.tag ≡ tag → d ≡ due) → drop p bs ≡ field_of d.tag value ++ later → ⊥
+    not_there d value later parts by_tag here =
+        let asked : first_no (field_asked bs p d) ≡ Some e = subst (λ (x : Due). first_no (field_asked bs p x) ≡ Some e) (sym (by_tag (tag_of d.tag value later here))) stopped.asked in
+        found d e value later parts here asked
 
-    -- an opening is due, and is not there
-    pub no_opening_at : tag ≡ 15 → Stopped bs p q opening_due e → NoFrameAt bs p q told
-    no_opening_at is stopped = record {
+    -- the field that was due by the tag is not there
+    pub no_frame_at : (15 ≡ tag → opening_due ≡ due) → (16 ≡ tag → file_due 16 ≡ due) → (17 ≡ tag → file_due 17 ≡ due) → (told : NoFrame) → told.at ≡ (field_refusal e).place → NoFrameAt bs p q told
+    no_frame_at opening entry amendment told place = record {
       none = record {
-        some = some;
-        no_opening = λ value later long here. found opening_due e value later (record { count = 1; some = omega arith; whole = long; enough = omega arith; few = omega arith }) here stopped.asked;
-        no_entry = λ file later long here. absurd (omega (arith, is, tag_of 16 file later here));
+        some = rw length-drop (omega (arith, within));
+        no_opening = λ value later long here. not_there opening_due value later (opening_parts (length value) long) opening here;
+        no_entry = λ file later short here. not_there (file_due 16) file later (file_parts 16 (length file) short) entry here;
+        no_amendment = λ file later short here. not_there (file_due 17) file later (file_parts 17 (length file) short) amendment here;
       };
-      told = place ∙ place_asked p e bs opening_due stopped.asked;
-      stays = stopped.stays;
-    }
-
-    -- an entry is due, and is not there
-    pub no_entry_at : (tag ≡ 15 → ⊥) → Stopped bs p q entry_due e → NoFrameAt bs p q told
-    no_entry_at is stopped = record {
-      none = record {
-        some = some;
-        no_opening = λ value later long here. is (sym (tag_of 15 value later here));
-        no_entry = λ file later long here. found entry_due e file later (record { count = length file; some = omega arith; whole = omega arith; enough = omega arith; few = omega arith }) here stopped.asked;
-      };
-      told = place ∙ place_asked p e bs entry_due stopped.asked;
+      told = place ∙ place_asked p e bs due stopped.asked;
       stays = stopped.stays;
     }

@@ -9,10 +9,11 @@ use Rattle.printed.specs.declared.frames.Frames.{Frames}
 use Rattle.printed.specs.declared.no_frame.NoFrame.{NoFrame}
 use Rattle.printed.specs.declared.opening.OpeningFrame.{OpeningFrame}
 
--- a frame in plain numbers: an opening by its cap and by what the book is given, or an entry by its file
+-- a frame in plain numbers: an opening by its cap and by what the book is given, an entry or an amendment by its file
 pub data Framed : Type 0 where
   Opens : ℕ → Given → Framed
   Enters : List ℕ → Framed
+  Amends : List ℕ → Framed
 
 -- what the book is given
 abbrev pub given_by : OpeningFrame → Given
@@ -22,6 +23,7 @@ given_by o = record { number = o.number; spread = o.spread; rates = o.rates; bal
 abbrev pub framed : Frame → Framed
 framed (code.Opening o) = Opens o.cap (given_by o)
 framed (code.Entry file) = Enters file.now
+framed (code.Amendment file) = Amends file.now
 
 -- the unsigned number of 64 bits that stands for a number of either sign
 abbrev pub twos_complement : ℤ → ℕ
@@ -35,18 +37,21 @@ opening_value cap g = eights (cap ∷ g.spread ∷ g.number ∷ []) ++ (eights g
 abbrev pub frame_bytes : Framed → List ℕ
 frame_bytes (Opens cap g) = field_of 15 (opening_value cap g)
 frame_bytes (Enters file) = field_of 16 file
+frame_bytes (Amends file) = field_of 17 file
 
 -- an opening has a starting rate and an opening balance for each of the four charges, and a balance is one that eight bytes can tell; any file may be
--- entered whose length fits two bytes
+-- entered, or amend, whose length fits two bytes
 abbrev pub WellFormed : Framed → Type 0
 WellFormed (Opens cap g) = (length g.rates ≡ 4) × (length g.balances ≡ 4) × All (FitsSigned w64) g.balances
 WellFormed (Enters file) = length file < 65536
+WellFormed (Amends file) = length file < 65536
 
 -- the bytes go on, and not with a frame
 pub record BeginsNoFrame (bytes : List ℕ) : Type 0 where
   pub some : 0 < length bytes
   pub no_opening : (value later : List ℕ) → length value ≡ 88 → bytes ≡ field_of 15 value ++ later → ⊥
   pub no_entry : (file later : List ℕ) → length file < 65536 → bytes ≡ field_of 16 file ++ later → ⊥
+  pub no_amendment : (file later : List ℕ) → length file < 65536 → bytes ≡ field_of 17 file ++ later → ⊥
 
 -- the bytes, and the offset of the next frame's head
 abbrev pub stream : Frames → List ℕ

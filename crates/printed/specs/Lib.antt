@@ -1,5 +1,5 @@
-pub mod Filings
 pub mod Frames
+pub mod Journals
 pub mod Lines
 pub mod Numerals
 pub mod Runs

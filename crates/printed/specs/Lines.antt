@@ -6,19 +6,21 @@ use Rattle.fields.specs.Words.{refusal_words}
 use Rattle.settlement.specs.Answers.{Answered, answered}
 use Rattle.settlement.specs.Words.{standing_word}
 use Rattle.printed.specs.declared.call.Call.{Call}
-use Rattle.printed.specs.declared.call.Call.TheVariants.{Opening, Entry}
+use Rattle.printed.specs.declared.call.Call.TheVariants.{Opening, Entry, Amendment}
 use Rattle.printed.specs.declared.line.Line.{Line}
-use Rattle.printed.specs.declared.line.Line.TheVariants.{Opened, Entered, Refused, NoFrame}
+use Rattle.printed.specs.declared.line.Line.TheVariants.{Opened, Entered, Amended, Refused, NoFrame}
 
 -- the letter of a call, accepted or refused
 abbrev pub call_letter : Call → List ℕ
 call_letter Opening = codes "O"
 call_letter Entry = codes "E"
+call_letter Amendment = codes "A"
 
 -- the letter that a line begins with
 abbrev pub letter : Line → List ℕ
 letter (Opened number) = call_letter Opening
 letter (Entered month answer) = call_letter Entry
+letter (Amended month answer) = call_letter Amendment
 letter (Refused call refusal) = call_letter call
 letter (NoFrame at) = codes "X"
 
@@ -30,6 +32,7 @@ answer_fields month a = decimal month ∷ map signed_decimal a.rates ++ (signed_
 abbrev pub told_fields : Line → List (List ℕ)
 told_fields (Opened number) = decimal number ∷ []
 told_fields (Entered month answer) = answer_fields month (answered answer)
+told_fields (Amended month answer) = answer_fields month (answered answer)
 told_fields (Refused call refusal) = refusal_words refusal ∷ []
 told_fields (NoFrame at) = decimal at ∷ []
 
@@ -40,6 +43,10 @@ spaced fs = flat_map (λ f. 32 ∷ f) fs
 -- a line ends in byte 10
 abbrev pub line_bytes : Line → List ℕ
 line_bytes l = letter l ++ (spaced (told_fields l) ++ 10 ∷ [])
+
+-- the line of a call that was accepted, by the month and the answer
+abbrev pub answer_line : Call → ℕ → Answered → List ℕ
+answer_line call month a = call_letter call ++ (spaced (answer_fields month a) ++ 10 ∷ [])
 
 -- one line: byte 10 stands at the end and nowhere else
 pub record OneLine (bytes : List ℕ) : Type 0 where

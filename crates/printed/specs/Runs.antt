@@ -2,13 +2,16 @@
 use Rattle.std.specs.Prelude.{◌≡◌, ℕ, ◌+◌, ◌-◌, ◌<◌, Bool, ◌⊎◌, List, [], ◌∷◌, ◌++◌, length, All, Option, Some, None, nat_le}
 use Rattle.std.specs.List.{flat_map}
 use Rattle.book.specs.Account.{Account, BookState}
+use Rattle.book.specs.Amending.{Amended}
 use Rattle.book.specs.Duties.{Spent, month_of}
-use Rattle.book.specs.Entering.{Entered, EntryRefused}
+use Rattle.book.specs.Entering.{Entered}
 use Rattle.book.specs.Opening.{Given, opening_asked, newly_opened}
+use Rattle.book.specs.Postings.{PostingRefused}
 use Rattle.book.specs.Refusals.{book_refusal}
 use Rattle.book.specs.declared.duty.Duty.{Duty}
 use Rattle.book.specs.declared.fault.BookFault.{BookFault}
 use Rattle.book.specs.declared.fault.BookFault.TheVariants.{Opening as NotOpen}
+use Rattle.book.specs.declared.kind.PostingKind.TheVariants.{Entry, Amendment}
 use Rattle.charges.specs.Meaning.{Meaning}
 use Rattle.charges.specs.Refusals.{cap_told}
 use Rattle.fields.specs.Questions.{first_no, carried}
@@ -19,7 +22,7 @@ use Rattle.settlement.specs.Answers.{answered}
 use Rattle.settlement.specs.declared.answer.Answer.{Answer}
 use Rattle.settlement.specs.declared.record.Mark.TheVariants.{Filed}
 use Rattle.printed.specs.Frames.{Framed, WellFormed, frame_bytes, BeginsNoFrame}
-use Rattle.printed.specs.Frames.Framed.{Opens, Enters}
+use Rattle.printed.specs.Frames.Framed.{Opens, Enters, Amends}
 use Rattle.printed.specs.Lines.{line_bytes}
 use Rattle.printed.specs.declared.call.Call.TheVariants as call
 use Rattle.printed.specs.declared.line.Line.{Line}
@@ -32,6 +35,10 @@ pub record State : Type 0 where
 
 abbrev pub state_of : BookState FourCharges → State
 state_of b = record { charges = four_charges (cap_of b.schedule); account = b.account }
+
+-- what a run of its own begins with: a closed book, over charges with a cap of 0
+abbrev pub closed : State
+closed = record { charges = four_charges 0; account = None }
 
 -- question 15 of an opening frame: of the cap, at place 1, and then at places 2 to 6
 abbrev pub frame_asked : State → ℕ → Given → List (Bool × Refusal)
@@ -60,7 +67,17 @@ pub record EntersBy (before : State) (file : List ℕ) (month : ℕ) (answer : A
 
 -- the file is refused, and the book is as it was
 pub record RefusesEntry (before : State) (file : List ℕ) (fault : BookFault) (after : State) : Type 0 where
-  pub refuses : EntryRefused before.charges before.account file fault
+  pub refuses : PostingRefused Entry before.charges before.account file fault
+  pub same : after ≡ before
+
+-- the file amends its month, with this answer
+pub record AmendsBy (before : State) (file : List ℕ) (month : ℕ) (answer : Answer) (after : State) : Type 0 where
+  pub amends : Amended before.charges before.account after.account file (answered answer) month
+  pub charges : after.charges ≡ before.charges
+
+-- the file is refused, and the book is as it was
+pub record RefusesAmendment (before : State) (file : List ℕ) (fault : BookFault) (after : State) : Type 0 where
+  pub refuses : PostingRefused Amendment before.charges before.account file fault
   pub same : after ≡ before
 
 -- what a frame makes of the book, and the line that tells it
@@ -71,6 +88,9 @@ Works before (Opens cap g) told after =
 Works before (Enters file) told after =
     ((month : ℕ) × (answer : Answer) × (told ≡ line.Entered month answer) × EntersBy before file month answer after)
     ⊎ ((fault : BookFault) × (told ≡ line.Refused call.Entry (book_refusal fault)) × RefusesEntry before file fault after)
+Works before (Amends file) told after =
+    ((month : ℕ) × (answer : Answer) × (told ≡ line.Amended month answer) × AmendsBy before file month answer after)
+    ⊎ ((fault : BookFault) × (told ≡ line.Refused call.Amendment (book_refusal fault)) × RefusesAmendment before file fault after)
 
 -- a frame, and the line that tells what became of it
 pub record Exchange : Type 0 where
@@ -110,16 +130,19 @@ pub record Printed (before : State) (input old new : List ℕ) (after : State) :
   pub ends : Ends input rest last
   pub output : new ≡ old ++ (lines_of exchanges ++ last)
 
--- after these exchanges this line is next: it tells of a frame more, which was worked too, or that no frame begins
-abbrev pub NextLine : State → List ℕ → List Exchange → Line → State → Type 0
-NextLine before input xs next after =
-    ((frame : Framed) × (rest : List ℕ) × Worked before input (xs ++ (record { frame = frame; told = next }) ∷ []) rest after)
-    ⊎ ((rest : List ℕ) × Worked before input xs rest after × BeginsNoFrame rest × (next ≡ no_frame input rest))
+-- the line is next behind those of the printed exchanges: it tells of the last frame that was worked, or that no frame begins
+abbrev pub NextLine : List ℕ → List Exchange → List ℕ → List Exchange → Line → Type 0
+NextLine input worked rest printed next =
+    ((frame : Framed) × (worked ≡ printed ++ (record { frame = frame; told = next }) ∷ []))
+    ⊎ ((worked ≡ printed) × BeginsNoFrame rest × (next ≡ no_frame input rest))
 
--- the output has the lines of the first frames, and the room that it had would not do for these and the next line
+-- frames were worked, the output has the lines of the first of them, and the room that it had would not do for these and the next line
 pub record LacksRoom (before : State) (input : List ℕ) (room : ℕ) (old new : List ℕ) (after : State) : Type 0 where
+  pub exchanges : List Exchange
+  pub rest : List ℕ
+  pub worked : Worked before input exchanges rest after
   pub printed : List Exchange
   pub unprinted : Line
-  pub next : NextLine before input printed unprinted after
+  pub next : NextLine input exchanges rest printed unprinted
   pub output : new ≡ old ++ lines_of printed
   pub short : room < length new + length (line_bytes unprinted)

@@ -6,6 +6,7 @@ ghost use Rattle.printed.specs.Lines.{call_letter};
 pub enum Call {
     Opening,
     Entry,
+    Amendment,
 }
 
 impl Call {
@@ -16,6 +17,7 @@ impl Call {
         match self {
             Call::Opening => "O",
             Call::Entry => "E",
+            Call::Amendment => "A",
         }
     }
 }

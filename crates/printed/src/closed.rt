@@ -1,7 +1,6 @@
 // The book that a run begins with.
-ghost use Rattle.std.specs.Prelude.{◌≡◌, None, IfOk};
-ghost use Rattle.schedule.specs.Four.{four_charges};
-ghost use Rattle.printed.specs.Runs.{state_of};
+ghost use Rattle.std.specs.Prelude.{◌≡◌, IfOk};
+ghost use Rattle.printed.specs.Runs.{closed, state_of};
 
 use book::Book;
 use schedule::FourCharges;
@@ -9,7 +8,7 @@ use std::alloc::{AllocError, Global};
 
 // A closed book over charges with a cap of 0; an opening frame brings others.
 pub fn closed_book(heap: Global) -> Result<Book<FourCharges>, AllocError>
-    ensures { IfOk result (λ b. state_of b ≡ record { charges = four_charges 0; account = None }) }
+    ensures { IfOk result (λ b. state_of b ≡ closed) }
 {
     let Ok(charges) = FourCharges::new(0) else {
         unreachable()

@@ -4,6 +4,7 @@ use crate::opening::OpeningFrame;
 #[derive(Clone, Copy)]
 pub enum Frame<'a> {
     Opening(OpeningFrame),
-    // The month file that is the frame's value.
+    // The value, where a month file is due.
     Entry(&'a [u8]),
+    Amendment(&'a [u8]),
 }

@@ -22,6 +22,9 @@ const ENTRY: Due = Due {
     most: 65_535,
 };
 
+// As of an entry.
+const AMENDMENT: Due = Due { tag: 17, ..ENTRY };
+
 // A stream, and how far its frames have been read.
 #[derive(Drop)]
 pub struct Frames<'a> {
@@ -53,6 +56,9 @@ impl<'a> Frames<'a> {
         if tag == OPENING.tag {
             let value = self.reader.field(OPENING)?;
             return Ok(Some(Frame::Opening(OpeningFrame::read(value))));
+        }
+        if tag == AMENDMENT.tag {
+            return Ok(Some(Frame::Amendment(self.reader.field(AMENDMENT)?)));
         }
         // Any tag but that of an entry is refused by the reader.
         Ok(Some(Frame::Entry(self.reader.field(ENTRY)?)))

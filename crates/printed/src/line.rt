@@ -1,5 +1,5 @@
 // A line of the printed run.
-ghost use Rattle.std.specs.Prelude.{◌≡◌, ℕ, ℤ, ◌<◌, ◌^◌, MatchResult};
+ghost use Rattle.std.specs.Prelude.{◌≡◌, MatchResult};
 ghost use Rattle.fields.specs.Room.{Wrote, Short};
 ghost use Rattle.printed.specs.Lines.{letter, line_bytes, OneLine};
 ghost use Rattle.printed.specs.Numerals.{NumbersReadBack};
@@ -16,6 +16,8 @@ pub enum Line {
     Opened(u64),
     // The number of the month, and the book's answer.
     Entered(u16, Answer),
+    // The number of the month that was replaced, and the book's answer.
+    Amended(u16, Answer),
     Refused(Call, Refusal),
     // The offset in the stream where a frame was due.
     NoFrame(usize),
@@ -29,6 +31,7 @@ impl Line {
         match *self {
             Line::Opened(_) => Call::Opening.letter(),
             Line::Entered(_, _) => Call::Entry.letter(),
+            Line::Amended(_, _) => Call::Amendment.letter(),
             Line::Refused(call, _) => call.letter(),
             Line::NoFrame(_) => "X",
         }

@@ -1,6 +1,7 @@
 // The whole run.
-ghost use Rattle.std.specs.Prelude.{◌≡◌, ℕ, ◌+◌, ◌<◌, ◌≤◌, List, ◌++◌, if◌then◌else◌, is_ok, OnErr, vec_capacity, length, MatchResult};
-ghost use Rattle.printed.specs.Filings.{NonePending};
+ghost use Rattle.std.specs.Prelude.{◌≡◌, ℕ, ◌+◌, ◌<◌, ◌≤◌, List, ◌++◌, if◌then◌else◌, Option, is_ok, OnErr, vec_capacity, length, MatchResult};
+ghost use Rattle.book.specs.Reading.{NonePending};
+ghost use Rattle.printed.specs.Journals.{Agrees, CarriesAll, Journal, LacksRoomWith, PrintedWith, RunFacts};
 ghost use Rattle.printed.specs.Lines.{line_bytes};
 ghost use Rattle.printed.specs.Runs.{State, state_of, Printed, LacksRoom};
 
@@ -24,21 +25,15 @@ fn append_line(output: &mut Vec<u8>, line: &Line) -> Result<(), AllocError>
     output.extend_from_slice(&buffer[..length])
 }
 
-// Works the frames of the input one after another, and appends a line for each; where no frame is next, a last line tells its offset. For want
-// of memory the run breaks off before the line that does not fit, whose frame has been worked.
-pub fn write_run(
+// The run, by which any journal that agrees with the book is carried on.
+fn run_frames(
     book: &mut Book<FourCharges>,
     input: &[u8],
     output: &mut Vec<u8>,
 ) -> Result<(), AllocError>
     ensures cases { MatchResult result
-        (λ _. Printed (state_of book.old) input.now output.old.items output.new.items (state_of book.new))
-        (λ _. LacksRoom (state_of book.old) input.now (vec_capacity output.old) output.old.items output.new.items (state_of book.new)) }
-    // No other output is that of a run, and no other book is left by it: the input and the book settle every byte, and what the book then holds.
-    // Where memory lacks, the output is a beginning of that one.
-    ensures once { (out : List ℕ) (after : State) → Printed (state_of book.old) input.now output.old.items out after
-        → MatchResult result (λ _. (output.new.items ≡ out) × (state_of book.new ≡ after)) (λ _. (later : List ℕ) × (out ≡ output.new.items ++ later)) }
-    // Where no month was pending before, none is afterwards, also where memory lacks.
+        (λ _. PrintedWith CarriesAll (state_of book.old) input.now output.old.items output.new.items (state_of book.new))
+        (λ _. LacksRoomWith CarriesAll (state_of book.old) input.now (vec_capacity output.old) output.old.items output.new.items (state_of book.new)) }
     ensures none_pending { NonePending book.old.account → NonePending book.new.account }
 {
     let mut frames = Frames::new(input);
@@ -49,4 +44,31 @@ pub fn write_run(
             Err(none) => return append_line(output, &Line::NoFrame(none.at)),
         }
     }
+}
+
+// Works the frames of the input one after another, and appends a line for each; where no frame is next, a last line tells its offset. For want
+// of memory the run breaks off before the line that does not fit, whose frame has been worked.
+pub fn write_run(
+    book: &mut Book<FourCharges>,
+    input: &[u8],
+    output: &mut Vec<u8>,
+) -> Result<(), AllocError>
+    ensures cases { MatchResult result
+        (λ _. Printed (state_of book.old) input.now output.old.items output.new.items (state_of book.new))
+        (λ _. LacksRoom (state_of book.old) input.now (vec_capacity output.old) output.old.items output.new.items (state_of book.new)) }
+    // No other output is that of a run, and no other state is left by it: the input and the book settle every byte, and what the book then holds.
+    // Where memory lacks, the output is a beginning of that one.
+    ensures once { (out : List ℕ) (after : State) → Printed (state_of book.old) input.now output.old.items out after
+        → MatchResult result (λ _. (output.new.items ≡ out) × (state_of book.new ≡ after)) (λ _. (later : List ℕ) × (out ≡ output.new.items ++ later)) }
+    // Where no month was pending before, none is afterwards, also where memory lacks.
+    ensures none_pending { NonePending book.old.account → NonePending book.new.account }
+    // By a journal that agreed with the book before, carried on by the frames, the facts hold of the book afterwards, also where memory lacks.
+    ensures facts { (begun : Option Journal) → Agrees (state_of book.old) begun → MatchResult result
+        (λ _. PrintedWith (RunFacts begun) (state_of book.old) input.now output.old.items output.new.items (state_of book.new))
+        (λ _. LacksRoomWith (RunFacts begun) (state_of book.old) input.now (vec_capacity output.old) output.old.items output.new.items (state_of book.new)) }
+{
+    let ran = run_frames(book, input, output);
+    // Does nothing; its contract gives the facts.
+    book.audit();
+    ran
 }

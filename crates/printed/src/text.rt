@@ -82,7 +82,9 @@ pub(crate) fn text_of(line: &Line) -> Text
     text.push_str(line.letter());
     match line {
         Line::Opened(number) => put_number(&mut text, *number),
-        Line::Entered(month, answer) => put_answer(&mut text, *month, answer),
+        Line::Entered(month, answer) | Line::Amended(month, answer) => {
+            put_answer(&mut text, *month, answer)
+        }
         Line::Refused(_, refusal) => put_refusal(&mut text, refusal),
         Line::NoFrame(at) => put_number(&mut text, *at),
     }

@@ -1,0 +1,58 @@
+// A run from its beginning.
+ghost use Rattle.std.specs.Prelude.{◌≡◌, ℕ, List, ◌++◌, None, vec_capacity, IfOk, MatchResult};
+ghost use Rattle.book.specs.Reading.{NonePending};
+ghost use Rattle.printed.specs.Journals.{LacksRoomWith, PrintedWith, RunFacts};
+ghost use Rattle.printed.specs.Runs.{State, closed, state_of, Printed};
+
+use crate::closed::closed_book;
+use crate::run::write_run;
+use book::Book;
+use schedule::FourCharges;
+use std::alloc::{AllocError, Global};
+use std::marker::Model;
+
+// A book that no frame was worked on, so that it is closed.
+#[derive(Drop)]
+pub struct NewBook {
+    book: Book<FourCharges>,
+}
+
+impl Model for NewBook {
+    ghost use Rattle.std.specs.Prelude.{◌≡◌};
+    ghost use Rattle.book.specs.Account.{BookState};
+    ghost use Rattle.schedule.specs.declared.four.FourCharges.{FourCharges};
+    ghost use Rattle.printed.specs.Runs.{closed, state_of};
+
+    ghost Value = { BookState FourCharges };
+
+    ghost view = { λ b. b.book };
+
+    ghost invariant = { λ b. state_of b.book ≡ closed };
+}
+
+impl NewBook {
+    pub fn new(heap: Global) -> Result<NewBook, AllocError>
+        ensures { IfOk result (λ b. state_of b ≡ closed) }
+    {
+        Ok(NewBook {
+            book: closed_book(heap)?,
+        })
+    }
+
+    // The run of this book, as `write_run` has it; the book that it leaves is handed back.
+    pub fn run(self, input: &[u8], output: &mut Vec<u8>) -> Result<Book<FourCharges>, AllocError>
+        // The output is that of a run, and the facts hold of the book by the journal of its exchanges. Where memory lacks the run broke off, and the
+        // same holds of its exchanges.
+        ensures cases { MatchResult result
+            (λ book. PrintedWith (RunFacts None) closed input.now output.old.items output.new.items (state_of book))
+            (λ _. (after : State) × LacksRoomWith (RunFacts None) closed input.now (vec_capacity output.old) output.old.items output.new.items after) }
+        // No other output is that of a run, and no other state is left by it. Where memory lacks, the output is a beginning of that one.
+        ensures once { (out : List ℕ) (after : State) → Printed closed input.now output.old.items out after
+            → MatchResult result (λ book. (output.new.items ≡ out) × (state_of book ≡ after)) (λ _. (later : List ℕ) × (out ≡ output.new.items ++ later)) }
+        ensures none_pending { IfOk result (λ book. NonePending book.account) }
+    {
+        let NewBook { mut book } = self;
+        write_run(&mut book, input, output)?;
+        Ok(book)
+    }
+}
