@@ -1,0 +1,48 @@
+-- The definitions compute each case.
+use Rattle.std.proofs.Common.{refl}
+use Rattle.std.specs.Fmt.{digits}
+use Rattle.fields.specs.Bytes.{be}
+use Rattle.workedcases.specs.WorkedCases.{WorkedCases}
+
+pub worked_cases : WorkedCases
+unfolding be digits
+worked_cases = record {
+  opening_accepted = refl;
+  entry_accepted = refl;
+  entry_answered = refl;
+  amendment_accepted = refl;
+  amendment_answered = refl;
+  opening_line = refl;
+  entry_line = refl;
+  amendment_line = refl;
+  line_of_an_entry = λ m a. refl;
+  line_of_an_amendment = λ m a. refl;
+  entry_balances = refl;
+  entry_revenue = refl;
+  amendment_balances = refl;
+  amendment_revenue = refl;
+  correcting_entry_answered = refl;
+  correcting_entry_balances = refl;
+  correcting_entry_rates = refl;
+  tenth_not_beyond = refl;
+  tenth_below_zero_not_beyond = refl;
+  above_a_tenth_beyond = refl;
+  above_a_tenth_below_zero_beyond = refl;
+  three_hundredths_within = refl;
+  three_hundredths_below_zero_within = refl;
+  above_three_hundredths_not_within = refl;
+  above_three_hundredths_below_zero_not_within = refl;
+  nothing_within_nothing = refl;
+  one_beyond_nothing = refl;
+  rounded_toward_zero = refl;
+  half_lost_accepted = refl;
+  above_half_lost_refused = refl;
+  empty_file_refused = λ kind account m. refl;
+  month_2_first_refused = refl;
+  power_at_the_limit_fit = refl;
+  power_above_the_limit_not_fit = refl;
+  transmission_at_the_limit_fit = refl;
+  transmission_above_the_limit_not_fit = refl;
+  lifeline_at_the_limit_fit = refl;
+  lifeline_above_the_limit_not_fit = refl;
+}

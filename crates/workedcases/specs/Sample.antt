@@ -1,0 +1,90 @@
+-- The book and the months of the worked cases.
+use Rattle.std.specs.Prelude.{ℕ, Bool, List, [], ◌∷◌, pos}
+use Rattle.book.specs.Account.{Account, marks_of}
+use Rattle.book.specs.Amending.{answer_now, replaced}
+use Rattle.book.specs.Duties.{marked}
+use Rattle.book.specs.Entering.{answer_to, with_month}
+use Rattle.book.specs.Opening.{Given, newly_opened}
+use Rattle.book.specs.Tally.{Posting, entry, amendment}
+use Rattle.charges.specs.Meaning.{Meaning, price_of}
+use Rattle.month.specs.Figures.{Figures}
+use Rattle.monthfile.specs.Layout.{file_of}
+use Rattle.schedule.specs.Four.{four_charges}
+use Rattle.settlement.specs.declared.record.Mark.TheVariants.{Filed}
+
+-- the four charges, with a feeder loss cap of 5 percent
+abbrev pub charges : List Meaning
+charges = four_charges 500
+
+-- an opening by its starting rate of the lifeline charge
+abbrev pub opening : ℕ → Given
+opening lifeline = record {
+  number = 7;
+  spread = 6;
+  rates = 50000 ∷ 10000 ∷ 8000 ∷ lifeline ∷ [];
+  balances = pos 0 ∷ pos 0 ∷ pos 0 ∷ pos 0 ∷ [];
+}
+
+abbrev pub opened : ℕ → Account
+opened lifeline = newly_opened (opening lifeline)
+
+-- a month of one source and one lifeline bracket, by its number and by what was recovered of stolen power
+abbrev pub sample : ℕ → ℕ → Figures
+sample month pilferage = record {
+  month = month;
+  sources = record { cost = 60000000; taken = 400000; passed = 0 } ∷ [];
+  pilferage = pilferage;
+  transmission = record { cost = 12000000; taken = 0; passed = 0 };
+  energy = record { input = 120000; substation = 2400; feeder = 9600 };
+  exempt = record { generation = 0; transmission = 0 };
+  brackets = record { kwh = 8000; customers = 400; percent = 50 } ∷ [];
+  sales = record { nonlifeline = 100000; rate = 80000; metering = 50000 };
+}
+
+-- the book with the sample as month 1, whose filing was made
+abbrev pub filed : Account
+filed = marked Filed 1 (with_month charges (opened 500) (sample 1 50000))
+
+-- the sample entered as month 1, by the starting rate of the lifeline charge; and then amended to a pilferage recovery of 0
+abbrev pub first : ℕ → Posting
+first lifeline = entry (file_of (sample 1 50000)) (sample 1 50000) [] (answer_to charges (opened lifeline) (sample 1 50000))
+
+abbrev pub second : Posting
+second = amendment (file_of (sample 1 0)) (sample 1 0) (marks_of filed) (answer_now charges (replaced (sample 1 0) filed))
+
+-- a month of 100 kWh, of which 1 is sold at the full rate, and which costs nothing. A cost, of 100 units for each centavo, is on average as many units per
+-- kWh as it has centavos
+abbrev pub hundred_kwh : Figures
+hundred_kwh = record {
+  month = 1;
+  sources = record { cost = 0; taken = 0; passed = 0 } ∷ [];
+  pilferage = 0;
+  transmission = record { cost = 0; taken = 0; passed = 0 };
+  energy = record { input = 100; substation = 0; feeder = 0 };
+  exempt = record { generation = 0; transmission = 0 };
+  brackets = [];
+  sales = record { nonlifeline = 1; rate = 0; metering = 0 };
+}
+
+-- it loses this much in the substation, and this much in the feeders
+abbrev pub losing : ℕ → ℕ → Figures
+losing substation feeder = record hundred_kwh { energy = record { input = 100; substation = substation; feeder = feeder } }
+
+-- its power costs so many centavos
+abbrev pub power_at : ℕ → Figures
+power_at cost = record hundred_kwh { sources = record { cost = cost; taken = 0; passed = 0 } ∷ [] }
+
+-- its transmission costs so many centavos
+abbrev pub transmission_at : ℕ → Figures
+transmission_at cost = record hundred_kwh { transmission = record { cost = cost; taken = 0; passed = 0 } }
+
+-- a customer in a bracket is discounted all that it owes, which is 1,000,000 units for 1 kWh and this metering charge
+abbrev pub lifeline_at : ℕ → Figures
+lifeline_at metering = record hundred_kwh {
+  brackets = record { kwh = 1; customers = 1; percent = 100 } ∷ [];
+  sales = record { nonlifeline = 1; rate = 1000000; metering = metering };
+}
+
+-- the base rate of a month that stands alone, and whether the month is fit
+abbrev pub price_and_fit : Meaning → Figures → ℕ × Bool
+price_and_fit k m = (price_of k m, k.fit m)
