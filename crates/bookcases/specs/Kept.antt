@@ -20,7 +20,13 @@ abbrev pub Owing : Option Account → ℕ → List Duty → Type 0
 Owing account month [] = Unit {0}
 Owing account month (d ∷ ds) = (month < d.month) × (is_owed account d ≡ true) × Owing account d.month ds
 
+-- a docket's book has this number once it is open
+abbrev pub Numbered : Option Account → Type 0
+Numbered None = Unit {0}
+Numbered (Some a) = a.number ≡ 1
+
 -- the book owes all that is kept, and has a record for each of its months
 pub record Keeps (account : Option Account) (duties : List Duty) : Type 0 where
   pub owing : Owing account 0 duties
   pub recorded : length (records_of account) ≡ length (months_of account)
+  pub numbered : Numbered account

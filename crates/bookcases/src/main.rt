@@ -5,6 +5,7 @@ mod answers;
 mod docket;
 mod figures;
 mod numbers;
+mod offering;
 mod playing;
 #[cfg(test)]
 mod tests;

@@ -22,6 +22,34 @@ fn month_written_back(rt: HostRuntime) -> Result<(), Fail> {
     Ok(())
 }
 
+// The sample month without pilferage recovery.
+fn without_recovery() -> [u8; 167] {
+    let mut file = SAMPLE;
+    file[41] = 0;
+    file[42] = 0;
+    file
+}
+
+// As the file that it was amended by.
+#[test]
+fn amended_month_written_back(rt: HostRuntime) -> Result<(), Fail> {
+    let mut book = opened(rt.alloc(), 7)?;
+    let mut answer = Answer::default();
+    post(&mut book, &SAMPLE, &mut answer)?;
+    assert!(rt; book.amend(&without_recovery(), &mut answer) == Ok(1));
+    let closing = Closing {
+        total: -99_905_398,
+        revenue: 7_294_094_602,
+    };
+    assert!(rt; answer.closing == closing);
+    assert!(rt; book.closing(1) == Some(closing));
+    let mut buffer = [0xa5; 1024];
+    assert_eq!(rt; book.write(1, &mut buffer)?, 167);
+    assert!(rt; buffer.starts_with(&without_recovery()));
+    assert!(rt; buffer.iter().skip(167).all(|byte| *byte == 0xa5));
+    Ok(())
+}
+
 // Question 12 comes before 16, and neither touches the buffer.
 #[test]
 fn buffer_too_short(rt: HostRuntime) -> Result<(), Fail> {
@@ -76,6 +104,60 @@ fn duty_of_another_book(rt: HostRuntime) -> Result<(), Fail> {
     Ok(())
 }
 
+// Books of one number take each other's duties, as nothing else tells them apart. The month is then pending no more.
+#[test]
+fn books_of_one_number(rt: HostRuntime) -> Result<(), Fail> {
+    let mut answer = Answer::default();
+    let mut own = opened(rt.alloc(), 7)?;
+    let mut other = opened(rt.alloc(), 7)?;
+    let theirs = other.enter(&SAMPLE, &mut answer)?;
+    let Ok(ours) = own.enter(&SAMPLE, &mut answer) else {
+        panic!(rt; "not entered");
+    };
+    match own.give_up(theirs) {
+        Ok(()) => {}
+        Err(_returned) => panic!(rt; "not given up"),
+    }
+    let Err(ReturnedDuty { fault, duty }) = own.file(ours) else {
+        panic!(rt; "filed");
+    };
+    assert!(rt; fault == BookFault::NotPending(1));
+    file(&rt, &mut other, duty);
+    assert!(rt; own.mark(1) == Some(Mark::Missed));
+    assert!(rt; other.mark(1) == Some(Mark::Filed));
+    Ok(())
+}
+
+// In any order, and the months that stand have their marks in theirs.
+#[test]
+fn marks_of_all_months(rt: HostRuntime) -> Result<(), Fail> {
+    let mut answer = Answer::default();
+    let mut book = opened(rt.alloc(), 7)?;
+    assert_eq!(rt; book.marks().len(), 0);
+    let first = book.enter(&SAMPLE, &mut answer)?;
+    let mut later = SAMPLE;
+    later[4] = 2;
+    let Ok(second) = book.enter(&later, &mut answer) else {
+        panic!(rt; "not entered");
+    };
+    later[4] = 3;
+    let Ok(third) = book.enter(&later, &mut answer) else {
+        panic!(rt; "not entered");
+    };
+    assert!(rt; book.marks().as_slice() == [Mark::Pending; 3].as_slice());
+    file(&rt, &mut book, second);
+    match book.give_up(first) {
+        Ok(()) => {}
+        Err(_returned) => panic!(rt; "not given up"),
+    }
+    let marked = [Mark::Missed, Mark::Filed, Mark::Pending];
+    assert!(rt; book.marks().as_slice() == marked.as_slice());
+    assert!(rt; book.amend(&SAMPLE, &mut answer) == Ok(1));
+    assert!(rt; book.marks().as_slice() == marked.as_slice());
+    file(&rt, &mut book, third);
+    Ok(())
+}
+
 #[test]
 fn numbers_that_name_nothing(rt: HostRuntime) -> Result<(), Fail> {
     let mut book = opened(rt.alloc(), 7)?;
@@ -96,9 +178,9 @@ fn numbers_that_name_nothing(rt: HostRuntime) -> Result<(), Fail> {
     Ok(())
 }
 
-// Whatever the question that is answered no.
+// Whatever the question that is answered no, of an entry and of an amendment.
 #[test]
-fn refused_entry_leaves_the_answer(rt: HostRuntime) -> Result<(), Fail> {
+fn refusals_leave_the_answer(rt: HostRuntime) -> Result<(), Fail> {
     let mut book = opened(rt.alloc(), 7)?;
     let mut answer = Answer::default();
     answer.closing = Closing {
@@ -114,6 +196,12 @@ fn refused_entry_leaves_the_answer(rt: HostRuntime) -> Result<(), Fail> {
     unfit[11] = 1;
     for file in [&SAMPLE[..166], &second[..], &unfit[..]] {
         assert!(rt; post(&mut book, file, &mut answer).is_err());
+        assert!(rt; book.amend(file, &mut answer).is_err());
+        assert!(rt; answer.closing == lent);
+    }
+    post(&mut book, &SAMPLE, &mut Answer::default())?;
+    for file in [&SAMPLE[..166], &second[..], &unfit[..]] {
+        assert!(rt; book.amend(file, &mut answer).is_err());
         assert!(rt; answer.closing == lent);
         assert!(rt; answer.standing == Standing::Correcting);
         assert_eq!(rt; answer.rates.len(), 0);
@@ -144,6 +232,10 @@ fn one_mechanism(rt: HostRuntime) -> Result<(), Fail> {
     assert!(rt; book.outstanding(0) == Some(1_058_500_000));
     assert!(rt; book.announced(0) == Some(51_424));
     assert!(rt; book.announced(1).is_none());
+    // G is 5,980,000,000 now.
+    assert!(rt; book.amend(&without_recovery(), &mut answer) == Ok(1));
+    assert!(rt; book.outstanding(0) == Some(1_063_000_000));
+    assert!(rt; book.announced(0) == Some(51_473));
     Ok(())
 }
 

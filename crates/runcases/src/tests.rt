@@ -63,7 +63,12 @@ fn lines_in_buffers(rt: HostRuntime) -> Result<(), Fail> {
             Line::Refused(Call::Entry, far_in_a_file),
             "E refused 255 file 18446744073709551615\n",
         ),
+        (
+            Line::Refused(Call::Amendment, full_book),
+            "A refused 12 book 36\n",
+        ),
         (Line::Entered(0, Answer::default()), "E 0 0 0 steady\n"),
+        (Line::Amended(0, Answer::default()), "A 0 0 0 steady\n"),
         (Line::NoFrame(0), "X 0\n"),
         (Line::NoFrame(usize::MAX), "X 18446744073709551615\n"),
     ] {
@@ -90,9 +95,18 @@ fn rates_and_totals_below_zero(rt: HostRuntime) -> Result<(), Fail> {
         closing,
         standing: Standing::Correcting,
     };
-    let text =
-        "E 65535 -1000000 11000000 -1 0 -1000000 -1000000 -10 -100 -9223372036854775808 18446744073709551615 correcting\n";
-    check_line(&rt, &Line::Entered(u16::MAX, answer), text);
+    for (line, text) in [
+        (
+            Line::Entered(u16::MAX, answer),
+            "E 65535 -1000000 11000000 -1 0 -1000000 -1000000 -10 -100 -9223372036854775808 18446744073709551615 correcting\n",
+        ),
+        (
+            Line::Amended(u16::MAX, answer),
+            "A 65535 -1000000 11000000 -1 0 -1000000 -1000000 -10 -100 -9223372036854775808 18446744073709551615 correcting\n",
+        ),
+    ] {
+        check_line(&rt, &line, text);
+    }
     Ok(())
 }
 
@@ -102,9 +116,11 @@ fn frames_stay_where_they_are(rt: HostRuntime) -> Result<(), Fail> {
     for fault in [
         b"\x10".as_slice(),
         b"\x0f\x00",
-        b"\x11\x00\x00",
+        b"\x11\x00",
+        b"\x12\x00\x00",
         b"\x0f\x00\x57\x00",
         b"\x10\x00\x02\x00",
+        b"\x11\x00\x02\x00",
     ] {
         let stream = [OPENING.as_slice(), &ENTRY, fault].concat(rt.alloc())?;
         let mut frames = Frames::new(stream.as_slice());
@@ -128,14 +144,23 @@ const OPENED_AND_ENTERED: &str = "\
     O 7\n\
     E 1 49791 10000 4645 3300 -104757845 7289242155 steady\n";
 
+// The sample month amended to a pilferage recovery of 0, whose lowest bytes are these two.
+fn amendment() -> [u8; 170] {
+    let mut frame = ENTRY;
+    frame[0] = 17;
+    frame[44] = 0;
+    frame[45] = 0;
+    frame
+}
+
 // The lines of a caller that works frame by frame.
 #[test]
 fn frame_by_frame(rt: HostRuntime) -> Result<(), Fail> {
-    let stream = [OPENING.as_slice(), &ENTRY].concat(rt.alloc())?;
+    let stream = [OPENING.as_slice(), &ENTRY, &amendment()].concat(rt.alloc())?;
     let mut frames = Frames::new(stream.as_slice());
     let mut book = closed_book(rt.alloc())?;
     let mut lines = Vec::new(rt.alloc());
-    for _ in 0..2 {
+    for _ in 0..3 {
         let Some(frame) = frames.read()? else {
             return Err(Fail::new("no frame"));
         };
@@ -143,7 +168,10 @@ fn frame_by_frame(rt: HostRuntime) -> Result<(), Fail> {
         let length = work(&mut book, &frame).write(&mut buffer)?;
         lines.extend_from_slice(&buffer[..length])?;
     }
-    assert_eq!(rt; String::from_utf8(lines)?.as_str(), OPENED_AND_ENTERED);
+    let amended = format!(in rt.alloc();
+        "{OPENED_AND_ENTERED}A 1 49833 10000 4649 3300 -99905398 7294094602 steady\n"
+    )?;
+    assert_eq!(rt; String::from_utf8(lines)?.as_str(), amended.as_str());
     Ok(())
 }
 
