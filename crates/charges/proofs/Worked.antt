@@ -1,21 +1,12 @@
 -- Worked examples: the definitions compute them.
 use Rattle.std.proofs.Common.{◌≡◌, ℕ, true, false, [], ◌∷◌, replicate, refl}
 use Rattle.month.specs.Figures.{Figures}
+use Rattle.month.specs.Sample.{sample_month}
 use Rattle.charges.specs.Charges.{generation, transmission, loss, lifeline}
 use Rattle.charges.specs.Formulas.{twelve_months, gross_up}
 
--- month 1 of one source and one lifeline bracket, by its pilferage recovery
 abbrev sample : ℕ → Figures
-sample recovered = record {
-  month = 1;
-  sources = record { cost = 60000000; taken = 400000; passed = 0 } ∷ [];
-  pilferage = recovered;
-  transmission = record { cost = 12000000; taken = 0; passed = 0 };
-  energy = record { input = 120000; substation = 2400; feeder = 9600 };
-  exempt = record { generation = 0; transmission = 0 };
-  brackets = record { kwh = 8000; customers = 400; percent = 50 } ∷ [];
-  sales = record { nonlifeline = 100000; rate = 80000; metering = 50000 };
-}
+sample recovered = sample_month 1 recovered
 
 sample_generation : generation.assessed (sample 50000 ∷ []) ≡ (49791, 5377500000)
 sample_generation = refl

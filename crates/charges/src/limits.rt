@@ -1,4 +1,4 @@
-// The limits that are tested here.
+// The limits of rates, quantities and the cap.
 
 // Up to this rate, in units per kWh, generation, transmission and lifeline find a month fit.
 pub(crate) const MAX_FIT_RATE: u64 = 1_000_000;

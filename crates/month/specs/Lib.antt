@@ -6,6 +6,7 @@ pub mod Every
 pub mod Figures
 pub mod Making
 pub mod Refusals
+pub mod Sample
 pub mod Stated
 pub mod Tags
 pub mod UnitWords

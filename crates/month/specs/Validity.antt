@@ -1,6 +1,6 @@
 -- Questions 6 to 11 answered yes, and valid figures, are the same.
 use Rattle.std.specs.Prelude.{◌≡◌, ℕ, ◌≤◌, true, false, ◌&&◌, List, [], ◌∷◌, is_some, is_ok, Some, None, Ok, Err, sum_by, Option, Result, MatchResult, nat_le, refl, All}
-use Rattle.std.proofs.Common.{sym, ◌∙◌, arith}
+use Rattle.std.proofs.Common.{sym, ◌∙◌, subst, arith}
 use Rattle.std.proofs.lemmas.List.Elements.{All-weaker, All-head, All-tail}
 use Rattle.std.proofs.lemmas.Int.{ints}
 use Rattle.std.proofs.lemmas.List.Sums.{sum_by-cons, sum_by-le}
@@ -18,7 +18,7 @@ use Rattle.month.specs.declared.statement.Statement.{Statement}
 use Rattle.month.specs.declared.within.WithinLimits.{WithinLimits}
 use Rattle.month.specs.Amounts.{cost_of, taken_of, passed_of, kwh_of}
 use Rattle.month.specs.Asked.{source_within, energy_within, exempt_within, sales_within, bracket_within, passed_on_within, energy_fits, sales_fit, limits_asked, rules_asked, month_asked}
-use Rattle.month.specs.Bounds.{Bounded}
+use Rattle.month.specs.Bounds.{Bounded, BoundedSource}
 use Rattle.month.specs.Energies.{energy_size}
 use Rattle.month.specs.Figures.{Figures, Counted}
 use Rattle.month.specs.Making.{Made, NotMade}
@@ -148,6 +148,11 @@ month_valid m = within_valid m.within (none_from _ m.rules)
 
 pub month_bounded : (m : Month) → Bounded (figures m)
 month_bounded m = within_bounded m.within
+
+pub bought_bounded : (m : Month) → BoundedSource m.bought
+bought_bounded m =
+    let b = month_bounded m in
+    subst BoundedSource (sym m.all_bought) (record { cost = b.costs; taken = b.taken; passed = b.passed })
 
 -- a month's energy is such that 36 of it still add up
 pub energy_small : (m : Month) → energy_size (figures m).energy ≤ greatest_of_36

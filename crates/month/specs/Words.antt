@@ -1,4 +1,4 @@
--- A fault in a sentence.
+-- The sentence for each fault.
 use Rattle.std.specs.Prelude.{ℕ, List, ◌++◌, codes, decimal}
 use Rattle.fields.specs.Words.{field_sentence}
 use Rattle.month.specs.declared.fault.FileFault.{FileFault}

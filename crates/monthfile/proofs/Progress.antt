@@ -5,7 +5,7 @@ use Rattle.std.proofs.lemmas.Bool.{eqb-true}
 use Rattle.fields.specs.declared.due.Due.{Due}
 use Rattle.fields.specs.declared.fault.FieldFault.{FieldFault}
 use Rattle.fields.specs.Bytes.{field_of, fields_of}
-use Rattle.fields.specs.Heads.{field_asked, size_at, next_offset, Took, Stopped, Parts}
+use Rattle.fields.specs.Heads.{field_asked, size_at, next_offset, FieldAt, NoFieldAt, Parts}
 use Rattle.fields.specs.Questions.{first_no, carried}
 use Rattle.fields.proofs.Asked.{first_no_after, first_no_stop, carried_none, carried_some}
 use Rattle.fields.proofs.Heads.{byte_left, no_byte_left}
@@ -56,10 +56,10 @@ module _ {file : List ℕ} {values : List (List ℕ)} {i : ℕ} {bytes : List �
     left : first_no (asked_from file at (drop i dues)) ≡ first_no (carried Field (field_asked file at (get_or dues i no_due)) ++ asked_from file (at + 3 + size_at file at) (drop (i + 1) dues))
     left = ap (λ ds. first_no (asked_from file at ds)) (drop_more dues i no_due h)
 
-    pub pass : {at' : ℕ} {bytes' value : List ℕ} → Took bytes at at' (get_or dues i no_due) value → bytes' ≡ bytes → Progress file (set values i value) (i + 1) bytes' at'
+    pub pass : {at' : ℕ} {bytes' value : List ℕ} → FieldAt bytes at at' (get_or dues i no_due) value → bytes' ≡ bytes → Progress file (set values i value) (i + 1) bytes' at'
     pass {at'} {bytes'} {value} took kept =
         let d = get_or dues i no_due in
-        let t = subst (λ b. Took b at at' d value) s.same took in
+        let t = subst (λ b. FieldAt b at at' d value) s.same took in
         let next : at + 3 + size_at file at ≡ at' = omega (arith, t.size, t.moved) in
         let long : length (take i values) ≡ i = length-take-le i values (omega (arith, s.seven)) in
         let tag : d.tag ≡ 1 + length (take i values) = due_tag i h ∙ ap (λ n. 1 + n) (sym long) in
@@ -75,7 +75,7 @@ module _ {file : List ℕ} {values : List (List ℕ)} {i : ℕ} {bytes : List �
               (subst (λ v. Parts d (length v)) (sym (get_or-set_same values i value [] within)) t.allowed);
         }
 
-    pub stop : {at' : ℕ} {e : FieldFault} → Stopped bytes at at' (get_or dues i no_due) e → first_no (file_asked file) ≡ Some (Field e)
+    pub stop : {at' : ℕ} {e : FieldFault} → NoFieldAt bytes at at' (get_or dues i no_due) e → first_no (file_asked file) ≡ Some (Field e)
     stop {at'} {e} stopped =
         let d = get_or dues i no_due in
         let is = subst (λ b. first_no (field_asked b at d) ≡ Some e) s.same stopped.asked in

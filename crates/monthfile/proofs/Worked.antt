@@ -13,21 +13,12 @@ use Rattle.month.specs.Amounts.{generation_cost, transmission_cost, sold, discou
 use Rattle.month.specs.Asked.{month_asked}
 use Rattle.month.specs.Figures.{Figures}
 use Rattle.month.specs.Refusals.{month_refusal}
+use Rattle.month.specs.Sample.{sample_month}
 use Rattle.monthfile.specs.Layout.{file_of}
 use Rattle.monthfile.specs.Questions.{asked_from, file_asked}
 
--- month 1 of one source, with one lifeline bracket
 sample : Figures
-sample = record {
-  month = 1;
-  sources = record { cost = 60000000; taken = 400000; passed = 0 } ∷ [];
-  pilferage = 50000;
-  transmission = record { cost = 12000000; taken = 0; passed = 0 };
-  energy = record { input = 120000; substation = 2400; feeder = 9600 };
-  exempt = record { generation = 0; transmission = 0 };
-  brackets = record { kwh = 8000; customers = 400; percent = 50 } ∷ [];
-  sales = record { nonlifeline = 100000; rate = 80000; metering = 50000 };
-}
+sample = sample_month 1 50000
 
 sample_file : List ℕ
 sample_file =

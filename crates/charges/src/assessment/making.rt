@@ -27,6 +27,8 @@ impl Assessment {
 
 // A quantity of 1, with nothing to recover for it: what fills the unused places of a list.
 impl Default for Assessment {
+    ghost is_default = { λ a. (a.quantity ≡ 1) × (a.answer ≡ (0, 0)) };
+
     fn default() -> Assessment {
         Assessment {
             quantity: 1,

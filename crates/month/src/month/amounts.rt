@@ -13,8 +13,7 @@ impl Month {
         ensures formula { pos result ≡ generation_formula (figures self.now) }
         ensures most { result ≤ 500000000000 }
     {
-        let bought = self.within.bought();
-        let Some(cost) = bought.recoverable(self.within.statement.pilferage) else {
+        let Some(cost) = self.bought.recoverable(self.within.statement.pilferage) else {
             unreachable()
         };
         cost
@@ -40,7 +39,7 @@ impl Month {
         ensures least { 1 ≤ result }
         ensures most { result ≤ 10000000 }
     {
-        self.within.sold()
+        self.sales
     }
 
     // D, the lifeline discount. A bracket of 0 percent is passed over.

@@ -17,7 +17,11 @@ impl Month {
     {
         let within = WithinLimits::new(statement)?;
         within.ask_rules()?;
-        Ok(Month { within })
+        Ok(Month {
+            within,
+            bought: within.bought(),
+            sales: within.sold(),
+        })
     }
 
     // What the month states: its figures are valid.

@@ -8,9 +8,9 @@ use super::WithinLimits;
 use crate::parts::{Bracket, Sales, Source};
 
 // Units of a ten-thousandth of a peso in a centavo, and half of them.
-const UNITS: u64 = 100;
+const UNITS_PER_CENTAVO: u64 = 100;
 
-const HALF: u64 = 50;
+const UNITS_PER_HALF_CENTAVO: u64 = 50;
 
 impl Source {
     // In units: the cost less what was recovered, and less half the discount that was kept; nothing where that is below zero.
@@ -21,8 +21,8 @@ impl Source {
         ensures is { IfSome result (λ n. n ≡ gross self.now - credits self.now recovered) }
         ensures formula { IfSome result (λ n. pos n ≡ recoverable self.now recovered) }
     {
-        let gross = UNITS * self.cost + HALF * self.passed;
-        let credits = UNITS * recovered + HALF * self.taken;
+        let gross = UNITS_PER_CENTAVO * self.cost + UNITS_PER_HALF_CENTAVO * self.passed;
+        let credits = UNITS_PER_CENTAVO * recovered + UNITS_PER_HALF_CENTAVO * self.taken;
         gross.checked_sub(credits)
     }
 }
