@@ -10,7 +10,7 @@ use Rattle.month.specs.Valid.{Valid}
 use Rattle.month.specs.Validity.{month_valid}
 use Rattle.month.specs.View.{figures}
 use Rattle.schedule.specs.Rows.{numbered}
-use Rattle.settlement.specs.Answers.{opening_units}
+use Rattle.settlement.specs.Settling.{opening_units}
 use Rattle.settlement.specs.Numbers.{by_number}
 use Rattle.settlement.specs.declared.amounts.Rate.{Rate}
 use Rattle.settlement.specs.declared.record.Mark.TheVariants.{Pending}

@@ -18,7 +18,7 @@ use Rattle.monthfile.specs.Questions.{file_asked, asked}
 use Rattle.monthfile.specs.Reading.{Accepted, Refused, States}
 use Rattle.monthfile.proofs.Exact.{file_same}
 use Rattle.monthfile.proofs.Sound.{asked_none}
-use Rattle.settlement.specs.Answers.{opening_units}
+use Rattle.settlement.specs.Settling.{opening_units}
 use Rattle.settlement.specs.declared.amounts.Rate.{Rate}
 use Rattle.settlement.specs.declared.record.Record.{Record}
 use Rattle.book.specs.Account.{Account, held_by}

@@ -11,7 +11,7 @@ use Rattle.month.specs.declared.month.Month.{Month}
 use Rattle.monthfile.specs.Layout.{file_of}
 use Rattle.monthfile.specs.Reading.{Accepted}
 use Rattle.monthfile.proofs.Exact.{file_same}
-use Rattle.settlement.specs.Answers.{Answered, settled, left_by, standing_after}
+use Rattle.settlement.specs.Settling.{Answered, settled, left_by, standing_after}
 use Rattle.settlement.specs.Corrections.{not_filed, is_barred}
 use Rattle.settlement.specs.declared.record.Closing.{Closing}
 use Rattle.settlement.specs.declared.record.Record.{Record}
@@ -21,12 +21,12 @@ use Rattle.book.specs.Opening.{OpeningNumbers}
 use Rattle.book.specs.Places.{of_month, changed_at, changed_month}
 use Rattle.book.specs.Postings.{has_place, posting_asked}
 use Rattle.book.specs.Reconciled.{Reconciled, BookReconciled, ByRule, standing_left, tally_of}
-use Rattle.book.specs.Tally.{Posting, amendment, barred_by, posted}
+use Rattle.book.specs.Tally.{Posting, Posts, amendment, barred_by, posted}
 use Rattle.book.specs.declared.kind.PostingKind.TheVariants.{Amendment}
 use Rattle.book.proofs.Admits.{standing_month}
 use Rattle.book.proofs.Changed.{changed_place, changed_last, take_changed, of_other_month, length_changed, map_changed_at, map_kept, last_of}
 use Rattle.book.proofs.OfMonth.{of_month_before}
-use Rattle.book.proofs.Posted.{TakesPosting, posting_reconciled}
+use Rattle.book.proofs.Posted.{AcceptsPosting, posting_reconciled}
 use Rattle.book.proofs.Standings.{StandingsLeft, left_before_last, left_with_last, bar_by_marks}
 
 -- of the closing figures it changes the last
@@ -75,8 +75,8 @@ module _ (answer : Answered) (rs before : List Record) (x : Record) (split : rs 
   last_carried earlier last e = ap (λ (r : Record). r.closing) (sym (same_from_push before earlier (closed_by answer x) last (sym records_carried ∙ e)).1)
 
 module _ (row : List Meaning) (o : OpeningNumbers) (ps : List Posting) (a : Account) (m : Figures) (file : List ℕ) (r : Reconciled row o ps a) (placed : has_place Amendment m.month (length a.months) ≡ true) where
-  abbrev given : Answered
-  given = answer_now row (replaced m a)
+  abbrev settled_answer : Answered
+  settled_answer = answer_now row (replaced m a)
 
   -- the months that then stand
   abbrev months_now : List Figures
@@ -87,19 +87,19 @@ module _ (row : List Meaning) (o : OpeningNumbers) (ps : List Posting) (a : Acco
 
   -- the amendment as a posting
   abbrev amended : Posting
-  amended = amendment file m (marks_of a) given
+  amended = amendment file m (marks_of a) settled_answer
 
   counted_after : tally_of (settled_now row (replaced m a)) ≡ posted (tally_of a) amended
   counted_after =
-      λ i. record { months = months_now; billed = a.billed; closings = closings_carried given a.records i; announced = given.rates }
+      λ i. record { months = months_now; billed = a.billed; closings = closings_carried settled_answer a.records i; announced = settled_answer.rates }
 
   before_last : length a.records - 1 ≡ length months_now - 1
   before_last = omega (arith, r.recorded, as_many)
 
-  left_by_tally : left_by (record_before_last a) ≡ standing_left (take (length months_now - 1) (changed_at (λ (c : Closing). given.closing) (length (closings_of a) - 1) (closings_of a)))
+  left_by_tally : left_by (record_before_last a) ≡ standing_left (take (length months_now - 1) (changed_at (λ (c : Closing). settled_answer.closing) (length (closings_of a) - 1) (closings_of a)))
   left_by_tally =
       let long = length-map a.records (λ (x : Record). x.closing) in
-      let same = take_changed (λ (c : Closing). given.closing) (closings_of a) (length (closings_of a) - 1) (length months_now - 1) (omega (arith, long, before_last)) in
+      let same = take_changed (λ (c : Closing). settled_answer.closing) (closings_of a) (length (closings_of a) - 1) (length months_now - 1) (omega (arith, long, before_last)) in
       r.standings (length a.records - 1) (omega arith) ∙ ap standing_left (ap (λ k. take k (closings_of a)) before_last ∙ sym same)
 
   barred_by_marks : is_barred (record_before_last a) ≡ barred_by (marks_of a) (length months_now)
@@ -113,23 +113,23 @@ module _ (row : List Meaning) (o : OpeningNumbers) (ps : List Posting) (a : Acco
     answer = λ i. settled row (r.spread i) (r.balances i) months_now a.billed (left_by_tally i) (barred_by_marks i);
   }
 
-  takes_amendment : Valid m → file ≡ file_of m → TakesPosting row o a amended (settled_now row (replaced m a))
-  takes_amendment valid is =
+  accepts_amendment : Valid m → file ≡ file_of m → AcceptsPosting row o a amended (settled_now row (replaced m a))
+  accepts_amendment valid is =
       let stands = standing_month m.month (length a.months) placed in
       let split = last_of a.records (omega (arith, stands.0, stands.1, r.recorded)) in
       record {
         spread = refl;
         balances = refl;
-        recorded = length_changed (closed_by given) (length a.records) a.records ∙ r.recorded ∙ sym as_many;
+        recorded = length_changed (closed_by settled_answer) (length a.records) a.records ∙ r.recorded ∙ sym as_many;
         counted = counted_after;
-        standings = standings_carried given a.records split.0 split.1 split.2 r.standings refl;
-        closed = last_carried given a.records split.0 split.1 split.2;
+        standings = standings_carried settled_answer a.records split.0 split.1 split.2 r.standings refl;
+        closed = last_carried settled_answer a.records split.0 split.1 split.2;
         file = is;
         by_rule = ruled valid;
       }
 
   amendment_reconciled : Valid m → file ≡ file_of m → Reconciled row o (ps ++ amended ∷ []) (settled_now row (replaced m a))
-  amendment_reconciled valid is = posting_reconciled row o ps a r amended (settled_now row (replaced m a)) (takes_amendment valid is)
+  amendment_reconciled valid is = posting_reconciled row o ps a r amended (settled_now row (replaced m a)) (accepts_amendment valid is)
 
 -- a month stands where one was replaced
 pub some_replaced : (row : List Meaning) (before after : Option Account) (m : Figures) → first_no (posting_asked Amendment row before m) ≡ None → Replaces before after m → SomeMonth after
@@ -161,10 +161,10 @@ module _ (row : List Meaning) (before after : Option Account) (file : List ℕ) 
   amended_keeps = rw (s.open_before, s.book, s.month_is) (keeps row s.account s.stated)
 
   -- the book of which a month was amended agrees with the tally that counts the file
-  pub amended_reconciled : (o : OpeningNumbers) (ps : List Posting) → BookReconciled row o ps before → (m : Figures) → file ≡ file_of m → BookReconciled row o (ps ++ amendment file m (marks_told before) answer ∷ []) after
-  amended_reconciled o ps r m is =
+  pub amended_reconciled : (o : OpeningNumbers) (ps more : List Posting) → BookReconciled row o ps before → Posts Amendment file (marks_told before) answer ps more → BookReconciled row o more after
+  amended_reconciled o ps more r posts =
       let held = subst (BookReconciled row o ps) s.open_before r in
       let clear = subst (λ x. first_no (posting_asked Amendment row x s.stated) ≡ None) s.open_before s.asked in
       let placed = (all_yes (posting_asked Amendment row (Some s.account) s.stated) clear).0 in
-      let same = file_same s.stated m (sym s.file_states ∙ is) in
-      rw (s.open_before, s.book, s.answer_is, ← same) (amendment_reconciled row o ps s.account s.stated file held placed s.valid s.file_states)
+      let same = file_same s.stated posts.stated (sym s.file_states ∙ posts.states) in
+      rw (posts.more, s.open_before, s.book, s.answer_is, ← same) (amendment_reconciled row o ps s.account s.stated file held placed s.valid s.file_states)

@@ -10,8 +10,9 @@ use Rattle.charges.specs.Meaning.{Meaning, Lawful}
 use Rattle.month.specs.Figures.{Figures}
 use Rattle.month.specs.View.{figures}
 use Rattle.month.specs.declared.month.Month.{Month}
+use Rattle.monthfile.specs.Layout.{file_of}
 use Rattle.schedule.specs.Rows.{numbered}
-use Rattle.settlement.specs.Answers.{closing_now}
+use Rattle.settlement.specs.Settling.{closing_now}
 use Rattle.settlement.specs.Months.{AllLawful}
 use Rattle.settlement.specs.Numbers.{by_number, int_sum}
 use Rattle.settlement.specs.Rules.{outstanding, total, revenue}
@@ -42,19 +43,19 @@ module _ (row : List Meaning) (o : OpeningNumbers) (ps : List Posting) (a : Acco
   counted = tally o ps
 
   -- what is outstanding of mechanism i, by the tally
-  abbrev due : ℕ → ℤ
-  due i = outstanding (numbered row i) i (opening_balance o i) counted.months counted.billed
+  abbrev outstanding_by_tally : ℕ → ℤ
+  outstanding_by_tally i = outstanding (numbered row i) i (opening_balance o i) counted.months counted.billed
 
   as_many : length a.balances ≡ length row
   as_many = ap length r.balances ∙ r.mechanisms.1
 
-  tells : (i : ℕ) → i < length row → option_map (λ opening. outstanding (numbered row i) i opening a.months a.billed) (slice_get a.balances i) ≡ Some (due i)
+  tells : (i : ℕ) → i < length row → option_map (λ opening. outstanding (numbered row i) i opening a.months a.billed) (slice_get a.balances i) ≡ Some (outstanding_by_tally i)
   tells i inside =
       ap (option_map (λ opening. outstanding (numbered row i) i opening a.months a.billed)) (slice_get-get_or a.balances i (pos 0) (omega (arith, as_many)))
       ∙ (λ j. Some (outstanding (numbered row i) i (slice_index_or (r.balances j) i (pos 0)) (r.counted j).months (r.counted j).billed))
 
-  all_due : total row a.balances a.months a.billed ≡ int_sum (by_number due (length row))
-  all_due = (λ j. total row (r.balances j) (r.counted j).months (r.counted j).billed) ∙ ap (λ n. int_sum (by_number due n)) r.mechanisms.1
+  all_due : total row a.balances a.months a.billed ≡ int_sum (by_number outstanding_by_tally (length row))
+  all_due = (λ j. total row (r.balances j) (r.counted j).months (r.counted j).billed) ∙ ap (λ n. int_sum (by_number outstanding_by_tally n)) r.mechanisms.1
 
   -- the last closing figures are those of the months as they stand
   last_closing : (before : List Closing) (c : Closing) → counted.closings ≡ before ++ c ∷ [] → c ≡ closing_now row a.balances a.months a.billed
@@ -70,7 +71,7 @@ module _ (row : List Meaning) (o : OpeningNumbers) (ps : List Posting) (a : Acco
   pub facts : map (λ m. m.month) a.months ≡ by_number suc (length a.months) → ((i : ℕ) → i < length row → AllLawful (numbered row i) a.months) → Facts row o ps (read_of row (Some a))
   facts in_order lawful = record {
     mechanisms = r.mechanisms;
-    outstanding = due;
+    outstanding = outstanding_by_tally;
     tells = tells;
     tells_no_other = λ i past. ap (option_map (λ opening. outstanding (numbered row i) i opening a.months a.billed)) (slice_get_past a.balances i (omega (arith, as_many)));
     total = ap Some all_due;
@@ -80,6 +81,7 @@ module _ (row : List Meaning) (o : OpeningNumbers) (ps : List Posting) (a : Acco
     all_billed = (tally_as_long o ps).billed;
     all_closed = (tally_as_long o ps).closings;
     announced_told = λ i. ap (λ t. slice_get t.announced i) r.counted;
+    file_told = λ month. ap (λ t. option_map file_of (of_month t.months month)) r.counted;
     billed_told = λ month i. ap (λ t. option_and_then (λ rates. slice_get rates i) (of_month t.billed month)) r.counted;
     closing_told = λ month. sym (of_month_map (λ (x : Record). x.closing) a.records month) ∙ ap (λ t. of_month t.closings month) r.counted;
     files = r.files;
@@ -88,7 +90,7 @@ module _ (row : List Meaning) (o : OpeningNumbers) (ps : List Posting) (a : Acco
     closing_total = λ before c is. ap (λ x. x.total) (last_closing before c is) ∙ all_due;
     closing_revenue = λ before c is. ap (λ x. x.revenue) (last_closing before c is) ∙ ap (λ n. revenue row n a.months) as_many ∙ ap (λ t. revenue row (length row) t.months) r.counted;
     by_rule = all_by_rule row o r.mechanisms.1 ps r.by_rule;
-    rounded_down = λ i inside. rest_bounded o (numbered row i) i counted (due i) (outstanding_is_balance o counted (numbered row i) i) (subst (λ (t : Tally). AllLawful (numbered row i) t.months) r.counted (lawful i inside));
+    rounded_down = λ i inside. rest_bounded o (numbered row i) i counted (outstanding_by_tally i) (outstanding_is_balance o counted (numbered row i) i) (subst (λ (t : Tally). AllLawful (numbered row i) t.months) r.counted (lawful i inside));
     in_force = subst (λ (s : Standing). (s ≡ Correcting) ↔ CorrectionDue counted.closings) (sym standing_is) (left_correcting counted.closings);
   }
 

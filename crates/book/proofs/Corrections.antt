@@ -4,19 +4,19 @@ use Rattle.std.proofs.lemmas.Bool.{cases_lt}
 use Rattle.std.proofs.lemmas.Bool.Decides.{nat_tests}
 use Rattle.std.proofs.lemmas.List.Elements.{All-nil, All-cons, All-head, All-tail}
 use Rattle.std.specs.List.{All}
-use Rattle.settlement.specs.Answers.{standing_after}
+use Rattle.settlement.specs.Settling.{standing_after}
 use Rattle.settlement.specs.declared.record.Closing.{Closing}
 use Rattle.settlement.specs.declared.standing.Standing.{Standing}
 use Rattle.settlement.specs.declared.standing.Standing.TheVariants.{Steady, Correcting}
-use Rattle.book.specs.Facts.{Beyond, Within, CorrectionDue}
+use Rattle.book.specs.Facts.{ClosedBeyond, ClosedWithin, CorrectionDue}
 use Rattle.book.specs.Reconciled.{standing_left}
 
 -- beyond and within exclude each other
 module _ (standing : Standing) (c : Closing) where
-  beyond_corrects : Beyond c → standing_after standing c ≡ Correcting
+  beyond_corrects : ClosedBeyond c → standing_after standing c ≡ Correcting
   beyond_corrects beyond = grind (arith, nat_tests)
 
-  within_steadies : Within c → standing_after standing c ≡ Steady
+  within_steadies : ClosedWithin c → standing_after standing c ≡ Steady
   within_steadies within = grind (arith, nat_tests)
 
   between_keeps : 10 * nat_abs c.total ≤ c.revenue → 3 * c.revenue < 100 * nat_abs c.total → standing_after standing c ≡ standing
@@ -26,7 +26,7 @@ abbrev leaves : Standing → List Closing → Standing
 leaves standing closings = fold standing_after standing closings
 
 abbrev NoneWithin : List Closing → Type 0
-NoneWithin closings = All (λ c. Within c → ⊥) closings
+NoneWithin closings = All (λ c. ClosedWithin c → ⊥) closings
 
 -- one month more in front
 due_later : (c : Closing) (cs : List Closing) → CorrectionDue cs → CorrectionDue (c ∷ cs)
@@ -41,13 +41,13 @@ due_later c cs due = record {
 
 -- months that leave a correction: it is due, or stood before and none ended it
 due_or_stood : (standing : Standing) (cs : List Closing) → leaves standing cs ≡ Correcting → CorrectionDue cs ⊎ ((standing ≡ Correcting) × NoneWithin cs)
-due_or_stood standing [] left = inr (left, All-nil (λ c. Within c → ⊥))
+due_or_stood standing [] left = inr (left, All-nil (λ c. ClosedWithin c → ⊥))
 due_or_stood standing (c ∷ cs) left = elim (due_or_stood (standing_after standing c) cs left) [
   | inl due ↦ inl (due_later c cs due)
   | inr stood ↦ elim (cases_lt c.revenue (10 * nat_abs c.total)) [
     | inl beyond ↦ inl (record { before = []; month = c; later = cs; split = refl; beyond = beyond; none_within = stood.1 })
     | inr low ↦ elim (cases_lt (3 * c.revenue) (100 * nat_abs c.total)) [
-      | inl high ↦ inr (sym (between_keeps standing c low high) ∙ stood.0, All-cons (λ c. Within c → ⊥) c cs (λ within. omega arith) stood.1)
+      | inl high ↦ inr (sym (between_keeps standing c low high) ∙ stood.0, All-cons (λ c. ClosedWithin c → ⊥) c cs (λ within. omega arith) stood.1)
       | inr within ↦ absurd (let ended = within_steadies standing c within in let corrects = stood.0 in cc)
     ]
   ]
@@ -57,8 +57,8 @@ due_or_stood standing (c ∷ cs) left = elim (due_or_stood (standing_after stand
 stands : (standing : Standing) (cs : List Closing) → standing ≡ Correcting → NoneWithin cs → leaves standing cs ≡ Correcting
 stands standing [] corrects none = corrects
 stands standing (c ∷ cs) corrects none =
-    let first = All-head (λ c. Within c → ⊥) c cs none in
-    let rest = All-tail (λ c. Within c → ⊥) c cs none in
+    let first = All-head (λ c. ClosedWithin c → ⊥) c cs none in
+    let rest = All-tail (λ c. ClosedWithin c → ⊥) c cs none in
     elim (cases_lt c.revenue (10 * nat_abs c.total)) [
       | inl beyond ↦ stands (standing_after standing c) cs (beyond_corrects standing c beyond) rest
       | inr low ↦ elim (cases_lt (3 * c.revenue) (100 * nat_abs c.total)) [
@@ -67,7 +67,7 @@ stands standing (c ∷ cs) corrects none =
       ]
     ]
 
-begins : (standing : Standing) (before : List Closing) (c : Closing) (later : List Closing) → Beyond c → NoneWithin later → leaves standing (before ++ c ∷ later) ≡ Correcting
+begins : (standing : Standing) (before : List Closing) (c : Closing) (later : List Closing) → ClosedBeyond c → NoneWithin later → leaves standing (before ++ c ∷ later) ≡ Correcting
 begins standing [] c later beyond none = stands (standing_after standing c) later (beyond_corrects standing c beyond) none
 begins standing (b ∷ before) c later beyond none = begins (standing_after standing b) before c later beyond none
 

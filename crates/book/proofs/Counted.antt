@@ -11,7 +11,7 @@ use Rattle.month.specs.declared.month.Month.{Month}
 use Rattle.monthfile.specs.Layout.{file_of}
 use Rattle.monthfile.specs.Reading.{Accepted}
 use Rattle.monthfile.proofs.Exact.{file_same}
-use Rattle.settlement.specs.Answers.{Answered, settled, left_by}
+use Rattle.settlement.specs.Settling.{Answered, settled, left_by}
 use Rattle.settlement.specs.Corrections.{not_filed, is_barred}
 use Rattle.settlement.specs.declared.record.Mark.TheVariants.{Pending}
 use Rattle.settlement.specs.declared.record.Record.{Record}
@@ -21,10 +21,10 @@ use Rattle.book.specs.Opening.{OpeningNumbers}
 use Rattle.book.specs.Places.{of_month}
 use Rattle.book.specs.Postings.{has_place, posting_asked}
 use Rattle.book.specs.Reconciled.{Reconciled, BookReconciled, ByRule, standing_left, tally_of}
-use Rattle.book.specs.Tally.{Posting, entry, barred_by, posted}
+use Rattle.book.specs.Tally.{Posting, Posts, entry, barred_by, posted}
 use Rattle.book.specs.declared.duty.Duty.{Duty}
 use Rattle.book.specs.declared.kind.PostingKind.TheVariants.{Entry}
-use Rattle.book.proofs.Posted.{TakesPosting, posting_reconciled}
+use Rattle.book.proofs.Posted.{AcceptsPosting, posting_reconciled}
 use Rattle.book.proofs.Standings.{last_left, left_with_last, bar_by_marks}
 
 module _ (row : List Meaning) (o : OpeningNumbers) (ps : List Posting) (a : Account) (m : Figures) (file : List ℕ) (r : Reconciled row o ps a) where
@@ -59,8 +59,8 @@ module _ (row : List Meaning) (o : OpeningNumbers) (ps : List Posting) (a : Acco
     answer = λ i. settled row (r.spread i) (r.balances i) (a.months ++ m ∷ []) (a.billed ++ a.announced ∷ []) (left_by_tally i) (barred_by_marks i);
   }
 
-  takes_entry : Valid m → file ≡ file_of m → has_place Entry m.month (length a.months) ≡ true → TakesPosting row o a entered (with_month row a m)
-  takes_entry valid is next = record {
+  accepts_entry : Valid m → file ≡ file_of m → has_place Entry m.month (length a.months) ≡ true → AcceptsPosting row o a entered (with_month row a m)
+  accepts_entry valid is next = record {
     spread = refl;
     balances = refl;
     recorded = omega (arith, r.recorded, length_push a.records new_record, length_push a.months m);
@@ -72,15 +72,16 @@ module _ (row : List Meaning) (o : OpeningNumbers) (ps : List Posting) (a : Acco
   }
 
   pub entry_reconciled : Valid m → file ≡ file_of m → has_place Entry m.month (length a.months) ≡ true → Reconciled row o (ps ++ entered ∷ []) (with_month row a m)
-  entry_reconciled valid is next = posting_reconciled row o ps a r entered (with_month row a m) (takes_entry valid is next)
+  entry_reconciled valid is next = posting_reconciled row o ps a r entered (with_month row a m) (accepts_entry valid is next)
 
--- the book of which a file is taken agrees with the tally that counts it
-pub taken_reconciled : (row : List Meaning) (file : List ℕ) (read : Month) (before after : Option Account) (answer : Answered) (duty : Duty) → Accepted file read → first_no (posting_asked Entry row before (figures read)) ≡ None → AnswersTo row before (figures read) answer → Adds before after (figures read) answer duty → (o : OpeningNumbers) (ps : List Posting) → BookReconciled row o ps before → (m : Figures) → file ≡ file_of m → BookReconciled row o (ps ++ entry file m (marks_told before) answer ∷ []) after
-taken_reconciled row file read None after answer duty accepted clear answers adds o ps r m is = absurd answers
-taken_reconciled row file read (Some a) after answer duty accepted clear answers adds o ps r m is =
-    let same : figures read ≡ m = file_same (figures read) m (sym accepted.is ∙ is) in
+-- the book that accepted a file agrees with the tally that counts it
+pub accepted_reconciled : (row : List Meaning) (file : List ℕ) (read : Month) (before after : Option Account) (answer : Answered) (duty : Duty) → Accepted file read → first_no (posting_asked Entry row before (figures read)) ≡ None → AnswersTo row before (figures read) answer → Adds before after (figures read) answer duty → (o : OpeningNumbers) (ps more : List Posting) → BookReconciled row o ps before → Posts Entry file (marks_told before) answer ps more → BookReconciled row o more after
+accepted_reconciled row file read None after answer duty accepted clear answers adds o ps more r posts = absurd answers
+accepted_reconciled row file read (Some a) after answer duty accepted clear answers adds o ps more r posts =
+    let same : figures read ≡ posts.stated = file_same (figures read) posts.stated (sym accepted.is ∙ posts.states) in
     let next : has_place Entry (figures read).month (length a.months) ≡ true = (all_yes (posting_asked Entry row (Some a) (figures read)) clear).0 in
     let counted = entry_reconciled row o ps a (figures read) file r accepted.valid accepted.is next in
     let by_answer = subst (λ (x : Answered). Reconciled row o (ps ++ entry file (figures read) (marks_of a) x ∷ []) (added a (figures read) x)) (sym answers) counted in
     let by_book = subst (λ (x : Option Account). BookReconciled row o (ps ++ entry file (figures read) (marks_of a) answer ∷ []) x) (sym adds.0) by_answer in
-    subst (λ (f : Figures). BookReconciled row o (ps ++ entry file f (marks_of a) answer ∷ []) after) same by_book
+    let by_file = subst (λ (f : Figures). BookReconciled row o (ps ++ entry file f (marks_of a) answer ∷ []) after) same by_book in
+    subst (λ (qs : List Posting). BookReconciled row o qs after) (sym posts.more) by_file

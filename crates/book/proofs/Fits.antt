@@ -8,7 +8,7 @@ use Rattle.charges.specs.Meaning.{Meaning, Lawful, FitMonths}
 use Rattle.month.specs.Figures.{Figures}
 use Rattle.month.specs.Valid.{Valid}
 use Rattle.schedule.specs.Rows.{numbered, no_mechanism}
-use Rattle.settlement.specs.Answers.{Lawfully}
+use Rattle.settlement.specs.Settling.{EachSettleable}
 use Rattle.settlement.specs.Months.{assessed_at, AllLawful, EachLawful}
 use Rattle.book.specs.Sound.{AllFit}
 
@@ -35,5 +35,5 @@ pub fit_each_lawful : (row : List Meaning) (ms : List Figures) (n : ℕ) → All
 fit_each_lawful row ms n lawful fit few count i h = fit_all_lawful row ms i lawful fit few (omega arith)
 
 -- where a month stands, the months can be settled
-pub fit_lawfully : (row : List Meaning) (ms : List Figures) (n : ℕ) → All Lawful row → AllFit row ms → length ms ≤ 36 → 0 < length ms → n ≡ length row → Lawfully row n ms
+pub fit_lawfully : (row : List Meaning) (ms : List Figures) (n : ℕ) → All Lawful row → AllFit row ms → length ms ≤ 36 → 0 < length ms → n ≡ length row → EachSettleable row n ms
 fit_lawfully row ms n lawful fit few some count i h = record { some = some; lawful = fit_each_lawful row ms n lawful fit few count i h }

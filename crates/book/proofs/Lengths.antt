@@ -3,7 +3,7 @@ use Rattle.std.proofs.Common.{◌≡◌, ℕ, zero, suc, ◌-◌, ◌≤◌, tru
 use Rattle.std.proofs.lemmas.Bool.Decides.{nat_tests}
 use Rattle.std.proofs.lemmas.List.{length_push, take_at}
 use Rattle.month.specs.Figures.{Figures}
-use Rattle.settlement.specs.Answers.{Answered}
+use Rattle.settlement.specs.Settling.{Answered}
 use Rattle.book.specs.Opening.{OpeningNumbers}
 use Rattle.book.specs.Places.{changed_at, changed_month}
 use Rattle.book.specs.Postings.{has_place}

@@ -10,7 +10,7 @@ use Rattle.fields.specs.Questions.{first_no, carried}
 use Rattle.fields.proofs.Asked.{all_yes, carried_some}
 use Rattle.month.specs.declared.month.Month.{Month}
 use Rattle.schedule.specs.Rows.{told}
-use Rattle.settlement.specs.Answers.{opening_units}
+use Rattle.settlement.specs.Settling.{opening_units}
 use Rattle.settlement.specs.declared.amounts.Rate.{Rate}
 use Rattle.settlement.specs.declared.record.Record.{Record}
 use Rattle.book.specs.Account.{Account, account_of, held_by}

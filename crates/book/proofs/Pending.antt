@@ -1,5 +1,5 @@
 -- Which filings are left pending.
-use Rattle.std.proofs.Common.{◌≡◌, ℕ, zero, suc, Bool, true, false, List, [], ◌∷◌, ◌++◌, Option, Some, None, slice_get, refl, ap, sym, ◌∙◌}
+use Rattle.std.proofs.Common.{◌≡◌, ℕ, zero, suc, Bool, true, false, List, [], ◌∷◌, ◌++◌, map, Option, Some, None, slice_get, refl, ap, sym, ◌∙◌}
 use Rattle.std.specs.Option.{option_map}
 use Rattle.std.proofs.lemmas.Bool.{and_parts, false≢true}
 use Rattle.fields.proofs.Asked.{all_yes}
@@ -7,9 +7,11 @@ use Rattle.settlement.specs.declared.record.Mark.{Mark}
 use Rattle.settlement.specs.declared.record.Mark.TheVariants.{Pending, Filed, Missed}
 use Rattle.settlement.specs.declared.record.Record.{Record}
 use Rattle.book.specs.Account.{Account}
+use Rattle.book.specs.Amending.{AmendmentKeeps}
 use Rattle.book.specs.Duties.{is_pending, pends, is_owed, duty_asked, Spent}
 use Rattle.book.specs.Places.{of_month, changed_at, changed_month}
 use Rattle.book.specs.declared.duty.Duty.{Duty}
+use Rattle.book.proofs.OfMonth.{of_month_map}
 
 -- no record at any place pends
 abbrev NoneAt : List Record → Type 0
@@ -27,6 +29,18 @@ mark_is_pending Missed is = absurd (false≢true is)
 abbrev is_told_pending : Option Mark → Bool
 is_told_pending None = false
 is_told_pending (Some mark) = is_pending mark
+
+pends_by_mark : (r : Option Record) → pends r ≡ is_told_pending (option_map (λ r. r.mark) r)
+pends_by_mark None = refl
+pends_by_mark (Some r) = refl
+
+-- whether a month pends, by the marks alone
+pends_marked : (rs : List Record) (month : ℕ) → pends (of_month rs month) ≡ is_told_pending (of_month (map (λ r. r.mark) rs) month)
+pends_marked rs month = pends_by_mark (of_month rs month) ∙ ap is_told_pending (sym (of_month_map (λ r. r.mark) rs month))
+
+-- an amendment keeps what pends
+pub pends_amended : (month : ℕ) (a b : Account) → AmendmentKeeps month a b → (n : ℕ) → pends (of_month b.records n) ≡ pends (of_month a.records n)
+pends_amended month a b keeps n = pends_marked b.records n ∙ ap (λ marks. is_told_pending (of_month marks n)) keeps.marks ∙ sym (pends_marked a.records n)
 
 module _ (mark : Mark) (ends : is_pending mark ≡ false) where
   abbrev with_mark : Record → Record

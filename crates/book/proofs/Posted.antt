@@ -5,7 +5,7 @@ use Rattle.std.proofs.lemmas.List.Sums.{fold_push}
 use Rattle.std.proofs.lemmas.List.Elements.{All-push}
 use Rattle.charges.specs.Meaning.{Meaning}
 use Rattle.monthfile.specs.Layout.{file_of}
-use Rattle.settlement.specs.Answers.{closing_now}
+use Rattle.settlement.specs.Settling.{closing_now}
 use Rattle.settlement.specs.declared.record.Record.{Record}
 use Rattle.book.specs.Account.{Account}
 use Rattle.book.specs.Opening.{OpeningNumbers}
@@ -26,7 +26,7 @@ split_last (y ∷ ys) (x ∷ xs) later q p e =
     ]
 
 -- what a posting makes of a book: it is counted, its answer is given by the rules, and the last month closes with the months as they then stand
-pub record TakesPosting (row : List Meaning) (o : OpeningNumbers) (before : Account) (p : Posting) (after : Account) : Type 0 where
+pub record AcceptsPosting (row : List Meaning) (o : OpeningNumbers) (before : Account) (p : Posting) (after : Account) : Type 0 where
   pub spread : after.spread ≡ before.spread
   pub balances : after.balances ≡ before.balances
   pub recorded : length after.records ≡ length after.months
@@ -45,7 +45,7 @@ module _ (row : List Meaning) (o : OpeningNumbers) (ps : List Posting) (before :
         | inr among ↦ r.by_rule earlier q among.0 among.1
       ]
 
-  pub posting_reconciled : (after : Account) → TakesPosting row o before p after → Reconciled row o (ps ++ p ∷ []) after
+  pub posting_reconciled : (after : Account) → AcceptsPosting row o before p after → Reconciled row o (ps ++ p ∷ []) after
   posting_reconciled after takes = record {
     spread = takes.spread ∙ r.spread;
     balances = takes.balances ∙ r.balances;

@@ -6,7 +6,7 @@ use Rattle.bounded.specs.declared.up_to.UpTo.{UpTo}
 use Rattle.charges.specs.Meaning.{Meaning, Lawful}
 use Rattle.month.specs.View.{figures}
 use Rattle.month.specs.declared.month.Month.{Month}
-use Rattle.settlement.specs.Answers.{answered, settled, left_by, units_of, opening_units, Lawfully}
+use Rattle.settlement.specs.Settling.{answered, settled, left_by, units_of, opening_units, EachSettleable}
 use Rattle.settlement.specs.Corrections.{is_barred}
 use Rattle.settlement.specs.declared.amounts.Rate.{Rate}
 use Rattle.settlement.specs.declared.answer.Answer.{Answer}
@@ -25,7 +25,7 @@ module _ (row : List Meaning) (months : List Month) (billed : List (UpTo Rate 8)
   some_recorded None sound some = absurd some
   some_recorded (Some o) sound some = omega (arith, some, sound.all_recorded, length-map months figures)
 
-  pub settles_now : {opened : Option Opened} (o : Opened) → opened ≡ Some o → All Lawful row → Sound row opened months billed records → SomeMonth (held_by opened months billed records) → Lawfully row (length (opening_units o.terms.balances)) (map figures months)
+  pub settles_now : {opened : Option Opened} (o : Opened) → opened ≡ Some o → All Lawful row → Sound row opened months billed records → SomeMonth (held_by opened months billed records) → EachSettleable row (length (opening_units o.terms.balances)) (map figures months)
   settles_now o is laws sound some =
       let sound_open = subst (λ (x : Option Opened). Sound row x months billed records) is sound in
       let some_open = subst (λ (x : Option Opened). SomeMonth (held_by x months billed records)) is some in

@@ -8,7 +8,7 @@ use Rattle.month.specs.Figures.{Figures}
 use Rattle.settlement.specs.Months.{assessed_at, allowance_at, quantities, quantity_at, AllLawful}
 use Rattle.settlement.specs.Numbers.{by_number}
 use Rattle.settlement.proofs.Numbers.{is_by_number}
-use Rattle.book.specs.Facts.{allowed, billed, at_own_rates, quantity_in_all, opening_balance, balance, rest, Bounded}
+use Rattle.book.specs.Facts.{allowances_in_all, billed_in_all, at_own_rates, quantity_in_all, opening_balance, balance, rounding_rest, RestBounded}
 use Rattle.book.specs.Opening.{OpeningNumbers}
 use Rattle.book.specs.Tally.{Tally}
 
@@ -37,18 +37,18 @@ quantities_summed k ms =
 gap : (opening billed z : ℤ) (allowed own : ℕ) → z ≡ (opening +ℤ pos allowed) -ℤ billed → (z -ℤ opening) -ℤ (pos own -ℤ billed) ≡ pos allowed -ℤ pos own
 gap opening billed z allowed own is = omega (arith, ints)
 
-bounded : (ms : List Figures) (left : ℤ) (quantity : ℕ) → (length ms ≡ 0 → left ≡ pos 0) → (0 < length ms → (pos 0 ≤ℤ left) × (left <ℤ pos quantity)) → Bounded ms left quantity
+bounded : (ms : List Figures) (left : ℤ) (quantity : ℕ) → (length ms ≡ 0 → left ≡ pos 0) → (0 < length ms → (pos 0 ≤ℤ left) × (left <ℤ pos quantity)) → RestBounded ms left quantity
 bounded [] left quantity none some = none refl
 bounded (m ∷ ms) left quantity none some = some (omega arith)
 
-pub rest_bounded : (o : OpeningNumbers) (k : Meaning) (i : ℕ) (t : Tally) (z : ℤ) → z ≡ balance o k i t → AllLawful k t.months → Bounded t.months (rest o k i t z) (quantity_in_all k t)
+pub rest_bounded : (o : OpeningNumbers) (k : Meaning) (i : ℕ) (t : Tally) (z : ℤ) → z ≡ balance o k i t → AllLawful k t.months → RestBounded t.months (rounding_rest o k i t z) (quantity_in_all k t)
 rest_bounded o k i t z is all =
     let ms : List Figures = t.months in
-    let left : rest o k i t z ≡ pos (allowed k t) -ℤ pos (at_own_rates k t) = gap (opening_balance o i) (billed k i t) z (allowed k t) (at_own_rates k t) is in
-    let least : at_own_rates k t ≤ allowed k t = covered k ms all (length ms) (omega arith) in
-    let most : allowed k t + length ms ≤ at_own_rates k t + sum (by_number (quantity_at k ms) (length ms)) = tight k ms all (length ms) (omega arith) in
+    let left : rounding_rest o k i t z ≡ pos (allowances_in_all k t) -ℤ pos (at_own_rates k t) = gap (opening_balance o i) (billed_in_all k i t) z (allowances_in_all k t) (at_own_rates k t) is in
+    let least : at_own_rates k t ≤ allowances_in_all k t = covered k ms all (length ms) (omega arith) in
+    let most : allowances_in_all k t + length ms ≤ at_own_rates k t + sum (by_number (quantity_at k ms) (length ms)) = tight k ms all (length ms) (omega arith) in
     let quantity = quantities_summed k ms in
-    let none : length ms ≡ 0 → rest o k i t z ≡ pos 0 = λ no_month.
-    let nothing : allowed k t ≡ 0 = ap (λ n. sum (by_number (allowance_at k ms) n)) no_month in
+    let none : length ms ≡ 0 → rounding_rest o k i t z ≡ pos 0 = λ no_month.
+    let nothing : allowances_in_all k t ≡ 0 = ap (λ n. sum (by_number (allowance_at k ms) n)) no_month in
     omega (arith, ints, left, least, nothing) in
-    bounded ms (rest o k i t z) (quantity_in_all k t) none (λ some. (omega (arith, ints, left, least), omega (arith, ints, left, most, quantity)))
+    bounded ms (rounding_rest o k i t z) (quantity_in_all k t) none (λ some. (omega (arith, ints, left, least), omega (arith, ints, left, most, quantity)))

@@ -1,16 +1,16 @@
 -- A posting that keeps the rules is answered by the tally that it leads to.
-use Rattle.std.proofs.Common.{◌≡◌, ◌↔◌, ℕ, ◌-◌, ◌<◌, Bool, List, ◌∷◌, ◌++◌, length, take, ap, sym, ◌∙◌, subst, pos, ◌+ℤ◌, Some, slice_get, arith}
+use Rattle.std.proofs.Common.{◌≡◌, ◌↔◌, ℕ, ◌-◌, ◌<◌, Bool, List, ◌∷◌, ◌++◌, length, take, ap, sym, ◌∙◌, subst, Some, slice_get, arith}
 use Rattle.std.proofs.lemmas.List.Sums.{fold_push}
 use Rattle.settlement.proofs.Numbers.{length-by_number}
 use Rattle.charges.specs.Meaning.{Meaning}
 use Rattle.schedule.specs.Rows.{numbered}
-use Rattle.settlement.specs.Answers.{announced_rate, closing_now, standing_after}
-use Rattle.settlement.specs.Corrections.{correction}
+use Rattle.settlement.specs.Settling.{announced_rate, closing_now, standing_after}
+use Rattle.settlement.specs.Corrections.{coming_rate}
 use Rattle.settlement.specs.Months.{quantity_at}
 use Rattle.settlement.specs.Rules.{revenue}
 use Rattle.settlement.specs.declared.standing.Standing.{Standing}
 use Rattle.settlement.specs.declared.standing.Standing.TheVariants.{Correcting}
-use Rattle.book.specs.Facts.{opening_balance, rate, CorrectionDue, AnsweredByRule, AllByRule}
+use Rattle.book.specs.Facts.{opening_balance, rate_by_tally, CorrectionDue, AnsweredByRule, AllByRule}
 use Rattle.book.specs.Opening.{OpeningNumbers}
 use Rattle.book.specs.Reconciled.{ByRule, standing_left}
 use Rattle.book.specs.Tally.{Posting, Tally, barred_by, posted, tally, no_months}
@@ -38,7 +38,7 @@ module _ (row : List Meaning) (o : OpeningNumbers) (mechanisms : length o.balanc
         ∙ sym (left_more (take (length after.months - 1) after.closings) p.answer.closing)
         ∙ ap standing_left (sym (closes_with p.kind p.stated p.answer before long r.placed))
 
-    rate_is : (i : ℕ) → i < length row → slice_get p.answer.rates i ≡ Some (rate o p.marks p.answer.standing (numbered row i) i after)
+    rate_is : (i : ℕ) → i < length row → slice_get p.answer.rates i ≡ Some (rate_by_tally o p.marks p.answer.standing (numbered row i) i after)
     rate_is i inside =
         let k : Meaning = numbered row i in
         let barred : Bool = barred_by p.marks (length after.months) in
@@ -48,7 +48,7 @@ module _ (row : List Meaning) (o : OpeningNumbers) (mechanisms : length o.balanc
         let balance = outstanding_is_balance o after k i in
         ap (λ a. slice_get a.rates i) r.answer
         ∙ get_by_number announced (length o.balances) i (omega (arith, mechanisms))
-        ∙ (λ j. Some (pos (k.assessed after.months).0 +ℤ correction (standing j) barred o.spread (balance j) (quantity_at k after.months (length after.months - 1))))
+        ∙ (λ j. Some (coming_rate (k.assessed after.months).0 (standing j) barred o.spread (balance j) (quantity_at k after.months (length after.months - 1))))
 
     answered_by_rule : AnsweredByRule row o (length before.months) after p
     answered_by_rule = record {

@@ -9,7 +9,7 @@ use Rattle.month.specs.Figures.{Figures}
 use Rattle.month.specs.Validity.{month_valid}
 use Rattle.month.specs.View.{figures}
 use Rattle.month.specs.declared.month.Month.{Month}
-use Rattle.settlement.specs.Answers.{Answered, Lawfully, opening_units}
+use Rattle.settlement.specs.Settling.{Answered, EachSettleable, opening_units}
 use Rattle.settlement.specs.declared.amounts.Rate.{Rate}
 use Rattle.settlement.specs.declared.record.Record.{Record}
 use Rattle.book.specs.Account.{account_of, held_by}
@@ -26,7 +26,7 @@ use Rattle.book.proofs.Fits.{fit_lawfully}
 pub record Settles (row : List Meaning) (o : Opened) (months : List Month) (billed : List (UpTo Rate 8)) (m : Month) : Type 0 where
   pub room : length months < 36
   pub room_billed : length billed < 36
-  pub lawful : Lawfully row (length (opening_units o.terms.balances)) (map figures months ++ figures m ∷ [])
+  pub lawful : EachSettleable row (length (opening_units o.terms.balances)) (map figures months ++ figures m ∷ [])
 
 module _ (row : List Meaning) {opened : Option Opened} (o : Opened) (months : List Month) (billed : List (UpTo Rate 8)) (records : List Record) (is : opened ≡ Some o) where
   pub settles : (m : Month) → All Lawful row → Sound row opened months billed records → first_no (posting_asked Entry row (held_by opened months billed records) (figures m)) ≡ None → Settles row o months billed m

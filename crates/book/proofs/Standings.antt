@@ -2,7 +2,7 @@
 use Rattle.std.proofs.Common.{◌≡◌, ℕ, zero, suc, ◌+◌, ◌≤◌, ◌⊎◌, inl, inr, List, [], ◌∷◌, ◌++◌, map, length, take, ap, sym, ◌∙◌, arith}
 use Rattle.std.proofs.lemmas.List.{length_push, map_push, take_all, take-append-le, length-map}
 use Rattle.std.proofs.lemmas.List.Sums.{fold_push}
-use Rattle.settlement.specs.Answers.{left_by, standing_after}
+use Rattle.settlement.specs.Settling.{left_by, standing_after}
 use Rattle.settlement.specs.Corrections.{not_filed, is_barred}
 use Rattle.settlement.specs.declared.record.Closing.{Closing}
 use Rattle.settlement.specs.declared.record.Record.{Record}

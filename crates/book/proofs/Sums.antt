@@ -10,7 +10,7 @@ use Rattle.settlement.specs.Months.{allowance_at, allowances, quantity_at}
 use Rattle.settlement.specs.Numbers.{by_number, int_sum}
 use Rattle.settlement.specs.Rules.{billed_rate, outstanding, total}
 use Rattle.settlement.proofs.Numbers.{length-by_number, index-by_number, by_number_same, is_by_number, int_sum-push}
-use Rattle.book.specs.Facts.{opening_balance, balance, balances_together}
+use Rattle.book.specs.Facts.{opening_balance, balance, total_by_tally}
 use Rattle.book.specs.Opening.{OpeningNumbers}
 use Rattle.book.specs.Tally.{Tally}
 
@@ -44,7 +44,7 @@ module _ (o : OpeningNumbers) (t : Tally) where
   outstanding_is_balance k i = outstanding_is k i (opening_balance o i) t.months t.billed
 
   -- with an opening balance for each mechanism
-  pub total_is_together : (row : List Meaning) → length o.balances ≡ length row → total row o.balances t.months t.billed ≡ balances_together o row t
+  pub total_is_together : (row : List Meaning) → length o.balances ≡ length row → total row o.balances t.months t.billed ≡ total_by_tally o row t
   total_is_together row mechanisms =
       let each = λ (i : ℕ). outstanding (numbered row i) i (opening_balance o i) t.months t.billed in
       ap (λ n. int_sum (by_number each n)) mechanisms ∙ ap int_sum (by_number_same each (λ i. balance o (numbered row i) i t) (length row) (λ i inside. outstanding_is_balance (numbered row i) i))

@@ -15,6 +15,6 @@ module _ (row : List Meaning) (ms : List Figures) (bills : List (List ℤ)) wher
   told_total balances None all not_all = absurd (not_all all)
   told_total balances (Some z) all is = ap Some is
 
-  pub told_outstanding : (i : ℕ) (openings : List OpeningBalance) (x : OpeningBalance) (b : Option ℤ) → slice_get openings i ≡ Some x → AllLawful (numbered row i) ms → MatchOption b (¬ AllLawful (numbered row i) ms) (λ z. (z ≡ outstanding (numbered row i) i x.units ms bills) × (nat_abs z ≤ greatest_outstanding)) → b ≡ option_map (λ opening. outstanding (numbered row i) i opening ms bills) (slice_get (map (λ o. o.units) openings) i)
-  told_outstanding i openings x None at all not_all = absurd (not_all all)
-  told_outstanding i openings x (Some z) at all is = rw (slice_get-map, at) (ap Some is.0)
+  pub told_outstanding : (i : ℕ) (openings : List OpeningBalance) (x : OpeningBalance) (b : Option ℤ) → slice_get openings i ≡ Some x → i ≤ 7 → AllLawful (numbered row i) ms → MatchOption b (i ≤ 7 → ¬ AllLawful (numbered row i) ms) (λ z. (i ≤ 7) × (z ≡ outstanding (numbered row i) i x.units ms bills) × (nat_abs z ≤ greatest_outstanding)) → b ≡ option_map (λ opening. outstanding (numbered row i) i opening ms bills) (slice_get (map (λ o. o.units) openings) i)
+  told_outstanding i openings x None at small all not_all = absurd (not_all small all)
+  told_outstanding i openings x (Some z) at small all is = rw (slice_get-map, at) (ap Some is.1)

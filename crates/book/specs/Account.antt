@@ -3,7 +3,7 @@ use Rattle.std.specs.Prelude.{ℕ, List, [], map, length, ℤ, Option, Some, Non
 use Rattle.month.specs.Figures.{Figures}
 use Rattle.month.specs.View.{figures}
 use Rattle.month.specs.declared.month.Month.{Month}
-use Rattle.settlement.specs.Answers.{units_of, opening_units, left_by}
+use Rattle.settlement.specs.Settling.{units_of, opening_units, left_by}
 use Rattle.bounded.specs.declared.up_to.UpTo.{UpTo}
 use Rattle.settlement.specs.declared.amounts.Rate.{Rate}
 use Rattle.settlement.specs.declared.record.Closing.{Closing}

@@ -5,7 +5,7 @@ use Rattle.fields.specs.Questions.{first_no}
 use Rattle.month.specs.Figures.{Figures}
 use Rattle.month.specs.Valid.{Valid}
 use Rattle.monthfile.specs.Layout.{file_of}
-use Rattle.settlement.specs.Answers.{Answered, settled, left_by}
+use Rattle.settlement.specs.Settling.{Answered, settled, left_by}
 use Rattle.settlement.specs.Corrections.{is_barred}
 use Rattle.settlement.specs.declared.record.Record.{Record}
 use Rattle.book.specs.Account.{Account, marks_of, closings_of}

@@ -5,6 +5,7 @@ use Rattle.charges.specs.Meaning.{Meaning}
 use Rattle.fields.specs.Questions.{carried}
 use Rattle.fields.specs.Room.{room_asked}
 use Rattle.month.specs.Figures.{Figures}
+use Rattle.monthfile.specs.Layout.{file_of}
 use Rattle.schedule.specs.Rows.{numbered}
 use Rattle.settlement.specs.Rules.{outstanding, total}
 use Rattle.settlement.specs.declared.record.Closing.{Closing}
@@ -45,6 +46,11 @@ record_told (Some a) month = of_month a.records month
 abbrev pub mark_told : Option Account → ℕ → Option Mark
 mark_told account month = option_map (λ r. r.mark) (record_told account month)
 
+-- the month has this mark, and every other month the one that it had
+pub record MarkSet (before after : Option Account) (month : ℕ) (mark : Mark) : Type 0 where
+  pub told : mark_told after month ≡ Some mark
+  pub others : (other : ℕ) → (other ≡ month → ⊥) → mark_told after other ≡ mark_told before other
+
 -- no month of the book has its filing pending; a closed book has no month
 abbrev pub NonePending : Option Account → Type 0
 NonePending account = (month : ℕ) → mark_told account month ≡ Some Pending → ⊥
@@ -55,6 +61,10 @@ closing_told account month = option_map (λ r. r.closing) (record_told account m
 abbrev pub month_told : Option Account → ℕ → Option Figures
 month_told None month = None
 month_told (Some a) month = of_month a.months month
+
+-- the file of a standing month, which writing it fills a buffer with
+abbrev pub file_told : Option Account → ℕ → Option (List ℕ)
+file_told account month = option_map file_of (month_told account month)
 
 -- questions 12 and 16, of a month that is to be written into a buffer of n bytes
 abbrev pub write_asked : Option Account → ℕ → ℕ → List (Bool × BookFault)

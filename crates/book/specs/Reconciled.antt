@@ -3,7 +3,7 @@ use Rattle.std.specs.Prelude.{◌≡◌, ℕ, ◌-◌, ◌≤◌, true, List, []
 use Rattle.charges.specs.Meaning.{Meaning}
 use Rattle.month.specs.Valid.{Valid}
 use Rattle.monthfile.specs.Layout.{file_of}
-use Rattle.settlement.specs.Answers.{settled, closing_now, left_by, standing_after}
+use Rattle.settlement.specs.Settling.{settled, closing_now, left_by, standing_after}
 use Rattle.settlement.specs.declared.record.Closing.{Closing}
 use Rattle.settlement.specs.declared.record.Record.{Record}
 use Rattle.settlement.specs.declared.standing.Standing.{Standing}
@@ -19,7 +19,7 @@ abbrev pub standing_left : List Closing → Standing
 standing_left closings = fold standing_after Steady closings
 
 -- the figures of a posting are valid and have their place after the months counted before, there are as many marks as these, and the answer settles the
--- months that then stand. That the marks are the book's is said where files are entered and amend
+-- months that then stand. That the marks are the book's is said by the clauses of `enter` and `amend`
 pub record ByRule (row : List Meaning) (o : OpeningNumbers) (before : Tally) (p : Posting) : Type 0 where
   pub valid : Valid p.stated
   pub placed : has_place p.kind p.stated.month (length before.months) ≡ true

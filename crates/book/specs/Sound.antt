@@ -6,7 +6,7 @@ use Rattle.month.specs.Figures.{Figures}
 use Rattle.month.specs.View.{figures}
 use Rattle.month.specs.declared.month.Month.{Month}
 use Rattle.schedule.specs.Rows.{numbered}
-use Rattle.settlement.specs.Answers.{opening_units}
+use Rattle.settlement.specs.Settling.{opening_units}
 use Rattle.settlement.specs.Numbers.{by_number}
 use Rattle.settlement.specs.declared.amounts.Rate.{Rate}
 use Rattle.settlement.specs.declared.record.Record.{Record}

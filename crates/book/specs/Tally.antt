@@ -3,7 +3,7 @@
 use Rattle.std.specs.Prelude.{◌≡◌, ℕ, ◌-◌, Bool, List, [], ◌∷◌, ◌++◌, length, ℤ, fold}
 use Rattle.month.specs.Figures.{Figures}
 use Rattle.monthfile.specs.Layout.{file_of}
-use Rattle.settlement.specs.Answers.{Answered}
+use Rattle.settlement.specs.Settling.{Answered}
 use Rattle.settlement.specs.Corrections.{not_filed}
 use Rattle.settlement.specs.declared.record.Closing.{Closing}
 use Rattle.settlement.specs.declared.record.Mark.{Mark}

@@ -1,4 +1,4 @@
-// The book.
+// A book: its fields, what contracts see of it, and what it keeps.
 use crate::opened::Opened;
 use bounded::UpTo;
 use month::Month;

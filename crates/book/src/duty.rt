@@ -11,6 +11,14 @@ pub struct Duty {
     pub(crate) month: u16,
 }
 
+// How a value ends: one that is `Drop` is let go, and a duty is spent. No two impls may fit one type, so a duty that was `Drop`, as `Clone` and
+// `Copy` ask, would not compile.
+trait Ends {}
+
+impl<T: Drop> Ends for T {}
+
+impl Ends for Duty {}
+
 impl Duty {
     // The number of the book that the month was entered in.
     pub fn book(&self) -> u64

@@ -2,7 +2,7 @@
 use Rattle.std.specs.Prelude.{◌≡◌, ℕ, List, Option}
 use Rattle.bounded.specs.View.{held}
 use Rattle.charges.specs.Meaning.{Meaning}
-use Rattle.settlement.specs.Answers.{answered}
+use Rattle.settlement.specs.Settling.{answered}
 use Rattle.settlement.specs.declared.record.Mark.{Mark}
 use Rattle.settlement.specs.declared.record.Mark.TheVariants.{Filed, Missed}
 use Rattle.book.specs.Account.{Account, marks_told}
@@ -26,7 +26,7 @@ EntryActed row before file outcome after = ⊥
 
 -- what amending by a file comes to
 abbrev pub AmendmentActed : List Meaning → Option Account → List ℕ → Outcome → Option Account → Type 0
-AmendmentActed row before file (Amended marks month answer) after = (held marks ≡ marks_told before) × MonthAmended row before after file (answered answer) month
+AmendmentActed row before file (Amended marks answer month) after = (held marks ≡ marks_told before) × MonthAmended row before after file (answered answer) month
 AmendmentActed row before file (Refused fault) after = PostingRefused Amendment row before file fault × (after ≡ before)
 AmendmentActed row before file outcome after = ⊥
 
@@ -50,7 +50,7 @@ EntryNoted file outcome before after = after ≡ before
 
 -- so is one that amended a month
 abbrev pub AmendmentNoted : List ℕ → Outcome → List Posting → List Posting → Type 0
-AmendmentNoted file (Amended marks month answer) before after = Posts Amendment file (held marks) (answered answer) before after
+AmendmentNoted file (Amended marks answer month) before after = Posts Amendment file (held marks) (answered answer) before after
 AmendmentNoted file outcome before after = after ≡ before
 
 -- how the postings go on after a call that came to this; duties, spent or returned, are none

@@ -1,13 +1,14 @@
 // Making one call.
-ghost use Rattle.std.specs.Prelude.{◌≡◌, List};
+ghost use Rattle.std.specs.Prelude.{◌≡◌, List, MatchResult};
 ghost use Rattle.book.specs.Opening.{OpeningNumbers};
 ghost use Rattle.book.specs.Reconciled.{BookReconciled};
 ghost use Rattle.book.specs.Tally.{Posting};
+ghost use Rattle.client.specs.declared.outcome.Outcome.TheVariants.{Spent, Returned};
 ghost use Rattle.client.specs.Acting.{Acted, EntryActed, AmendmentActed, Noted, EntryNoted, AmendmentNoted};
 
 use crate::call::Call;
 use crate::outcome::Outcome;
-use book::{Answer, Book};
+use book::{Answer, Book, ReturnedDuty};
 use schedule::Schedule;
 
 // Makes the call, and tells what it came to.
@@ -21,14 +22,17 @@ pub fn act<S: Schedule>(book: &mut Book<S>, call: Call) -> Outcome
     match call {
         Call::Enter(file) => enter(book, &file),
         Call::Amend(file) => amend(book, &file),
-        Call::File(duty) => match book.file(duty) {
-            Ok(()) => Outcome::Spent,
-            Err(returned) => Outcome::Returned(returned),
-        },
-        Call::GiveUp(duty) => match book.give_up(duty) {
-            Ok(()) => Outcome::Spent,
-            Err(returned) => Outcome::Returned(returned),
-        },
+        Call::File(duty) => spent(book.file(duty)),
+        Call::GiveUp(duty) => spent(book.give_up(duty)),
+    }
+}
+
+fn spent(answer: Result<(), ReturnedDuty>) -> Outcome
+    ensures { MatchResult answer (λ _. result ≡ Spent) (λ returned. result ≡ Returned returned) }
+{
+    match answer {
+        Ok(()) => Outcome::Spent,
+        Err(returned) => Outcome::Returned(returned),
     }
 }
 
@@ -55,7 +59,7 @@ fn amend<S: Schedule>(book: &mut Book<S>, file: &[u8]) -> Outcome
     let marks = book.marks();
     let mut answer = Answer::default();
     match book.amend(file, &mut answer) {
-        Ok(month) => Outcome::Amended(marks, month, answer),
+        Ok(month) => Outcome::Amended(marks, answer, month),
         Err(fault) => Outcome::Refused(fault),
     }
 }

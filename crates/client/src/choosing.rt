@@ -1,4 +1,4 @@
-// How calls are chosen.
+// What a client is: whoever chooses the calls of a book.
 ghost use Rattle.std.specs.Prelude.{Option};
 ghost use Rattle.client.specs.declared.call.Call.{Call};
 ghost use Rattle.client.specs.declared.outcome.Outcome.{Outcome};

@@ -6,8 +6,8 @@ pub enum Outcome {
     // The book was opened, and no call was made yet.
     Opened,
     Entered(Marks, Answer, Duty),
-    // The number of the month that was replaced.
-    Amended(Marks, u16, Answer),
+    // With the number of the month that was replaced.
+    Amended(Marks, Answer, u16),
     // The duty was spent.
     Spent,
     // The file was refused.

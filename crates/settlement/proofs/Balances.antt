@@ -42,7 +42,7 @@ abbrev pub balance_so_far : ℤ → ℕ → List Assessment → List (List ℤ) 
 balance_so_far opening i found bills n =
     opening +ℤ int_sum (by_number (λ j. pos (slice_index (map allowance_of found) j) -ℤ (billed_rate bills i j *ℤ pos (slice_index (map quantity_of found) j))) n)
 
--- month n adds the gap of its assessment
+-- month n adds the month_adds of its assessment
 pub one_month_more : (opening : ℤ) (i : ℕ) (found : List Assessment) (bills : List (List ℤ)) (n : ℕ) (a : Assessment) → a ≡ get_or found n a → n < length found → balance_so_far opening i found bills (n + 1) ≡ balance_so_far opening i found bills n +ℤ (pos a.answer.1 -ℤ (billed_rate bills i n *ℤ pos a.quantity))
 one_month_more opening i found bills n a at within =
     let allowance : slice_index (map allowance_of found) n ≡ a.answer.1 = get_or-map allowance_of found n a 0 within ∙ ap allowance_of (sym at) in

@@ -6,7 +6,7 @@ use Rattle.std.proofs.lemmas.Option.{slice_get-get_or}
 use Rattle.charges.specs.Meaning.{Meaning}
 use Rattle.month.specs.Figures.{Figures}
 use Rattle.schedule.specs.Rows.{numbered}
-use Rattle.settlement.specs.Answers.{Answered, announced_rate, settled, closing_now, standing_after}
+use Rattle.settlement.specs.Settling.{Answered, announced_rate, settled, closing_now, standing_after}
 use Rattle.settlement.specs.Numbers.{by_number, int_sum}
 use Rattle.settlement.specs.Positions.{outstanding_of, recent_of, corrected, IsPosition, ArePositions}
 use Rattle.settlement.specs.Rules.{total, revenue}

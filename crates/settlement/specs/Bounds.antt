@@ -6,8 +6,8 @@ abbrev pub greatest_allowance : ℕ
 greatest_allowance = 100000009999999
 
 -- the size of what one month adds to a balance: that allowance, and a quantity of 10,000,000 billed at -1,000,000
-abbrev pub greatest_gap : ℕ
-greatest_gap = 110000009999999
+abbrev pub greatest_month_adds : ℕ
+greatest_month_adds = 110000009999999
 
 -- the size of what is outstanding: an opening balance, and 36 months
 abbrev pub greatest_outstanding : ℕ

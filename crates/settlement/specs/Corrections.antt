@@ -1,5 +1,5 @@
 -- What is added to a base rate while a correction is in force.
-use Rattle.std.specs.Prelude.{ℕ, ◌*◌, Bool, true, false, not, if◌then◌else◌, ◌&&◌, ℤ, pos, negsuc, int_div, int_lt, Option, Some, None}
+use Rattle.std.specs.Prelude.{ℕ, ◌*◌, Bool, true, false, not, if◌then◌else◌, ◌&&◌, ℤ, pos, negsuc, ◌+ℤ◌, int_div, int_lt, Option, Some, None}
 use Rattle.std.specs.Int.{int_max, int_min}
 use Rattle.std.specs.Option.{option_map}
 use Rattle.settlement.specs.declared.record.Mark.{Mark}
@@ -38,3 +38,7 @@ unless_barred barred z = if barred && int_lt (pos 0) z then pos 0 else z
 abbrev pub correction : Standing → Bool → ℕ → ℤ → ℕ → ℤ
 correction Steady barred spread balance quantity = pos 0
 correction Correcting barred spread balance quantity = unless_barred barred (cut (spread_over balance (spread * quantity)))
+
+-- the rate announced for the coming month: the base rate of the last month, and the correction of its balance
+abbrev pub coming_rate : ℕ → Standing → Bool → ℕ → ℤ → ℕ → ℤ
+coming_rate base standing barred spread balance quantity = pos base +ℤ correction standing barred spread balance quantity

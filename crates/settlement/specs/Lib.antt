@@ -1,4 +1,3 @@
-pub mod Answers
 pub mod Bands
 pub mod Bounds
 pub mod Corrections
@@ -6,5 +5,6 @@ pub mod Months
 pub mod Numbers
 pub mod Positions
 pub mod Rules
+pub mod Settling
 pub mod Standings
 pub mod Words

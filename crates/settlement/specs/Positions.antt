@@ -1,10 +1,10 @@
--- Where mechanisms stand after the last month.
-use Rattle.std.specs.Prelude.{◌≡◌, ℕ, ◌-◌, List, length, Bool, ℤ, pos, ◌+ℤ◌, Some, slice_get, slice_index_or}
+-- What is known of each mechanism after the last month.
+use Rattle.std.specs.Prelude.{◌≡◌, ℕ, ◌-◌, List, length, Bool, ℤ, pos, Some, slice_get, slice_index_or}
 use Rattle.charges.specs.Meaning.{Meaning}
 use Rattle.month.specs.Figures.{Figures}
 use Rattle.schedule.specs.Rows.{numbered}
-use Rattle.settlement.specs.Answers.{Lawfully}
-use Rattle.settlement.specs.Corrections.{correction}
+use Rattle.settlement.specs.Settling.{EachSettleable}
+use Rattle.settlement.specs.Corrections.{coming_rate}
 use Rattle.settlement.specs.Months.{quantity_at}
 use Rattle.settlement.specs.Rules.{outstanding, recent}
 use Rattle.settlement.specs.declared.position.Position.{Position}
@@ -16,9 +16,9 @@ outstanding_of p = p.outstanding
 abbrev pub recent_of : Position → ℕ
 recent_of p = p.recent
 
--- the rate announced: the last month's base rate, and the correction
+-- the rate announced
 abbrev pub corrected : Standing → Bool → ℕ → Position → ℤ
-corrected standing barred spread p = pos p.last.answer.0 +ℤ correction standing barred spread p.outstanding p.last.quantity
+corrected standing barred spread p = coming_rate p.last.answer.0 standing barred spread p.outstanding p.last.quantity
 
 -- what is taken of mechanism i
 pub record IsPosition (k : Meaning) (i : ℕ) (opening : ℤ) (ms : List Figures) (bills : List (List ℤ)) (p : Position) : Type 0 where
@@ -29,6 +29,6 @@ pub record IsPosition (k : Meaning) (i : ℕ) (opening : ℤ) (ms : List Figures
 
 -- one for each opening balance, by number
 pub record ArePositions (row : List Meaning) (balances : List ℤ) (ms : List Figures) (bills : List (List ℤ)) (ps : List Position) : Type 0 where
-  pub lawful : Lawfully row (length balances) ms
+  pub lawful : EachSettleable row (length balances) ms
   pub count : length ps ≡ length balances
   pub each : (i : ℕ) (p : Position) → slice_get ps i ≡ Some p → IsPosition (numbered row i) i (slice_index_or balances i (pos 0)) ms bills p

@@ -1,6 +1,6 @@
 // What an accepted entry or amendment is answered.
 ghost use Rattle.std.specs.Prelude.{◌≡◌, [], pos};
-ghost use Rattle.settlement.specs.Answers.{answered};
+ghost use Rattle.settlement.specs.Settling.{answered};
 ghost use Rattle.settlement.specs.declared.standing.Standing.TheVariants.{Steady};
 
 use crate::rates::Rates;

@@ -3,8 +3,8 @@ ghost use Rattle.std.specs.Prelude.{◌≡◌, ◌≤◌, map, length, nat_abs, 
 ghost use Rattle.charges.specs.Assessed.{allowance_of};
 ghost use Rattle.month.specs.View.{figures};
 ghost use Rattle.schedule.specs.Rows.{numbered};
-ghost use Rattle.settlement.specs.Answers.{units_of, opening_units};
-ghost use Rattle.settlement.specs.Bounds.{greatest_gap, greatest_outstanding};
+ghost use Rattle.settlement.specs.Settling.{units_of, opening_units};
+ghost use Rattle.settlement.specs.Bounds.{greatest_month_adds, greatest_outstanding};
 ghost use Rattle.settlement.specs.Months.{AllLawful, EachLawful, quantity_of};
 ghost use Rattle.settlement.specs.Rules.{balance_after, outstanding, billed_rate, total};
 
@@ -27,9 +27,9 @@ fn charged(billed: Rate, quantity: u64) -> i64
 }
 
 // What a month adds to a balance.
-fn gap(assessment: &Assessment, billed: Rate) -> i64
+fn month_adds(assessment: &Assessment, billed: Rate) -> i64
     ensures value { result ≡ pos assessment.now.answer.1 -ℤ (billed.units *ℤ pos assessment.now.quantity) }
-    ensures bound { nat_abs result ≤ greatest_gap }
+    ensures bound { nat_abs result ≤ greatest_month_adds }
 {
     let (_, allowance) = assessment.answer;
     allowance as i64 - charged(billed, assessment.quantity)
@@ -62,13 +62,13 @@ pub(crate) fn balance_of(
 {
     let mut balance = opening.units;
     for (month, assessment) in assessed.iter().enumerate() {
-        balance += gap(assessment, billed_rate(bills, number, month));
+        balance += month_adds(assessment, billed_rate(bills, number, month));
     }
     balance
 }
 
 // The outstanding balance of mechanism `number`, by its opening balance, the months that stand and what these were billed; None only where an
-// answer of the mechanism breaks the law, or more than 36 months stand. As a schedule is asked for numbers up to 7, nothing is said of others.
+// answer of the mechanism breaks the law, or more than 36 months stand, and for a number above 7, as a schedule is asked for no other.
 pub fn outstanding<S: Schedule>(
     schedule: &S,
     number: usize,
@@ -76,11 +76,15 @@ pub fn outstanding<S: Schedule>(
     months: &[Month],
     bills: &[Rates],
 ) -> Option<i64>
-    ensures { number ≤ 7 → MatchOption result
-        (¬ AllLawful (numbered (S.Schedule.meaning schedule.now) number) (map figures months.now))
-        (λ b. (b ≡ outstanding (numbered (S.Schedule.meaning schedule.now) number) number opening.units (map figures months.now) (map units_of bills.now))
+    ensures { MatchOption result
+        (number ≤ 7 → ¬ AllLawful (numbered (S.Schedule.meaning schedule.now) number) (map figures months.now))
+        (λ b. (number ≤ 7)
+        × (b ≡ outstanding (numbered (S.Schedule.meaning schedule.now) number) number opening.units (map figures months.now) (map units_of bills.now))
         × (nat_abs b ≤ greatest_outstanding)) }
 {
+    if number > 7 {
+        return None;
+    }
     let assessed = assessments(schedule, number, months)?;
     Some(balance_of(number, opening, assessed.as_slice(), bills))
 }

@@ -2,7 +2,7 @@
 ghost use Rattle.std.specs.Prelude.{◌≡◌, map, length, sum_by, MatchOption};
 ghost use Rattle.bounded.specs.View.{held};
 ghost use Rattle.month.specs.View.{figures};
-ghost use Rattle.settlement.specs.Answers.{units_of, opening_units, answered, settled, standing_after, left_by, Lawfully};
+ghost use Rattle.settlement.specs.Settling.{units_of, opening_units, answered, settled, standing_after, left_by, EachSettleable};
 ghost use Rattle.settlement.specs.Corrections.{is_barred};
 ghost use Rattle.settlement.specs.Numbers.{int_sum};
 ghost use Rattle.settlement.specs.Positions.{outstanding_of, recent_of, corrected};
@@ -74,7 +74,7 @@ pub fn settle<S: Schedule>(
     before: Option<Record>,
 ) -> Option<Answer>
     ensures { MatchOption result
-        (¬ Lawfully (S.Schedule.meaning schedule.now) (length (opening_units terms.now.balances)) (map figures months.now))
+        (¬ EachSettleable (S.Schedule.meaning schedule.now) (length (opening_units terms.now.balances)) (map figures months.now))
         (λ a. answered a
         ≡ settled (S.Schedule.meaning schedule.now) terms.now.spread.months (opening_units terms.now.balances) (map figures months.now)
         (map units_of bills.now) (left_by before) (is_barred before)) }

@@ -1,17 +1,17 @@
 // Amending a month.
-ghost use Rattle.std.specs.Prelude.{◌≡◌, [], ◌∷◌, ◌++◌, List, None, IfOk, OnErr, MatchResult, IsOk};
+ghost use Rattle.std.specs.Prelude.{◌≡◌, List, None, IfOk, OnErr, MatchResult, IsOk};
 ghost use Rattle.fields.specs.Questions.{first_no};
 ghost use Rattle.month.specs.Figures.{Figures};
 ghost use Rattle.month.specs.Valid.{Valid};
 ghost use Rattle.month.specs.View.{figures};
 ghost use Rattle.monthfile.specs.Layout.{file_of};
-ghost use Rattle.settlement.specs.Answers.{answered};
+ghost use Rattle.settlement.specs.Settling.{answered};
 ghost use Rattle.book.specs.Account.{marks_told};
 ghost use Rattle.book.specs.Amending.{Amended, AmendmentKeepsBook, Replaces, SettlesNow, SomeMonth};
 ghost use Rattle.book.specs.Opening.{OpeningNumbers};
 ghost use Rattle.book.specs.Postings.{PostingRefused, posting_asked};
 ghost use Rattle.book.specs.Reconciled.{BookReconciled};
-ghost use Rattle.book.specs.Tally.{Posting, amendment};
+ghost use Rattle.book.specs.Tally.{Posting, Posts};
 ghost use Rattle.book.specs.declared.kind.PostingKind.TheVariants.{Amendment};
 
 use super::Book;
@@ -39,10 +39,10 @@ impl<S: Schedule> Book<S> {
         // Billed rates, marks and the closing figures of earlier months stay.
         ensures keeps { IfOk result (λ month. AmendmentKeepsBook month self.old.account self.new.account) }
         // A book that agrees with a tally agrees with it afterwards, with this file counted where it was accepted.
-        ensures reconciled { (o : OpeningNumbers) (ps : List Posting) → BookReconciled (S.Schedule.meaning self.old.schedule) o ps self.old.account
+        ensures reconciled { (o : OpeningNumbers) (ps more : List Posting) → BookReconciled (S.Schedule.meaning self.old.schedule) o ps self.old.account
             → MatchResult result
-            (λ _. (m : Figures) → file.now ≡ file_of m → BookReconciled (S.Schedule.meaning self.old.schedule) o
-            (ps ++ amendment file.now m (marks_told self.old.account) (answered answer.new) ∷ []) self.new.account)
+            (λ _. Posts Amendment file.now (marks_told self.old.account) (answered answer.new) ps more
+            → BookReconciled (S.Schedule.meaning self.old.schedule) o more self.new.account)
             (λ _. BookReconciled (S.Schedule.meaning self.old.schedule) o ps self.new.account) }
     {
         let month = self.admit(PostingKind::Amendment, file)?;

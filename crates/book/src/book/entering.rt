@@ -5,14 +5,14 @@ ghost use Rattle.month.specs.Figures.{Figures};
 ghost use Rattle.month.specs.Valid.{Valid};
 ghost use Rattle.month.specs.View.{figures};
 ghost use Rattle.monthfile.specs.Layout.{file_of};
-ghost use Rattle.settlement.specs.Answers.{answered, opening_units, Lawfully};
+ghost use Rattle.settlement.specs.Settling.{answered, opening_units, EachSettleable};
 ghost use Rattle.book.specs.Account.{Account, account_of, marks_told};
 ghost use Rattle.book.specs.Duties.{duty_asked};
 ghost use Rattle.book.specs.Entering.{Entered, AnswersTo, Adds, answer_to};
 ghost use Rattle.book.specs.Opening.{OpeningNumbers};
 ghost use Rattle.book.specs.Postings.{PostingRefused, posting_asked};
 ghost use Rattle.book.specs.Reconciled.{BookReconciled};
-ghost use Rattle.book.specs.Tally.{Posting, entry};
+ghost use Rattle.book.specs.Tally.{Posting, Posts};
 ghost use Rattle.book.specs.declared.kind.PostingKind.TheVariants.{Entry};
 
 use super::{Book, MOST_MONTHS};
@@ -36,7 +36,7 @@ fn settle_with<S: Schedule>(
     month: Month,
 ) -> Option<Answer>
     ensures { length months.now < 36 → length billed.now < 36 → MatchOption result
-        (¬ Lawfully (S.Schedule.meaning schedule.now) (length (opening_units opened.now.terms.balances))
+        (¬ EachSettleable (S.Schedule.meaning schedule.now) (length (opening_units opened.now.terms.balances))
         (map figures months.now ++ figures month ∷ []))
         (λ a. answered a ≡ answer_to (S.Schedule.meaning schedule.now) (account_of opened.now months.now billed.now records.now) (figures month)) }
 {
@@ -66,10 +66,10 @@ impl<S: Schedule> Book<S> {
         // Filing would not refuse the duty now.
         ensures owed { IfOk result (λ duty. first_no (duty_asked self.new.account duty) ≡ None) }
         // A book that agrees with a tally agrees with it afterwards, with this file counted where it was accepted.
-        ensures reconciled { (o : OpeningNumbers) (ps : List Posting) → BookReconciled (S.Schedule.meaning self.old.schedule) o ps self.old.account
+        ensures reconciled { (o : OpeningNumbers) (ps more : List Posting) → BookReconciled (S.Schedule.meaning self.old.schedule) o ps self.old.account
             → MatchResult result
-            (λ _. (m : Figures) → file.now ≡ file_of m → BookReconciled (S.Schedule.meaning self.old.schedule) o
-            (ps ++ entry file.now m (marks_told self.old.account) (answered answer.new) ∷ []) self.new.account)
+            (λ _. Posts Entry file.now (marks_told self.old.account) (answered answer.new) ps more
+            → BookReconciled (S.Schedule.meaning self.old.schedule) o more self.new.account)
             (λ _. BookReconciled (S.Schedule.meaning self.old.schedule) o ps self.new.account) }
     {
         let month = self.admit(PostingKind::Entry, file)?;

@@ -1,7 +1,7 @@
 // Reading a book. A number that names nothing is answered with nothing.
 ghost use Rattle.std.specs.Prelude.{◌≡◌, slice_get};
 ghost use Rattle.bounded.specs.View.{held};
-ghost use Rattle.settlement.specs.Answers.{units_of};
+ghost use Rattle.settlement.specs.Settling.{units_of};
 ghost use Rattle.book.specs.Account.{marks_told};
 ghost use Rattle.book.specs.Reading.{outstanding_told, total_told, standing_told, announced_told, billed_told, record_told, mark_told, closing_told};
 

@@ -2,7 +2,7 @@
 ghost use Rattle.std.specs.Prelude.{◌≡◌, ◌≤◌, [], true, false, Option, None, Some, length, map, pos, MatchOption, MatchResult};
 ghost use Rattle.std.specs.List.{list_all};
 ghost use Rattle.fields.specs.Questions.{first_no};
-ghost use Rattle.settlement.specs.Answers.{units_of, opening_units};
+ghost use Rattle.settlement.specs.Settling.{units_of, opening_units};
 ghost use Rattle.book.specs.Account.{Account, account_of};
 ghost use Rattle.book.specs.Opening.{is_starting_rate, is_balance, is_closed, given, opening_asked, newly_opened};
 

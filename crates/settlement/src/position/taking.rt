@@ -3,7 +3,7 @@ ghost use Rattle.std.specs.Prelude.{◌≤◌, map, length, MatchOption};
 ghost use Rattle.bounded.specs.View.{held};
 ghost use Rattle.month.specs.View.{figures};
 ghost use Rattle.schedule.specs.Rows.{numbered};
-ghost use Rattle.settlement.specs.Answers.{units_of, opening_units, Lawfully};
+ghost use Rattle.settlement.specs.Settling.{units_of, opening_units, EachSettleable};
 ghost use Rattle.settlement.specs.Months.{Settleable};
 ghost use Rattle.settlement.specs.Positions.{IsPosition, ArePositions};
 
@@ -53,7 +53,7 @@ pub(crate) fn positions<S: Schedule>(
     bills: &[Rates],
 ) -> Option<Positions>
     ensures { MatchOption result
-        (¬ Lawfully (S.Schedule.meaning schedule.now) (length (opening_units balances.now)) (map figures months.now))
+        (¬ EachSettleable (S.Schedule.meaning schedule.now) (length (opening_units balances.now)) (map figures months.now))
         (λ ps. ArePositions (S.Schedule.meaning schedule.now) (opening_units balances.now) (map figures months.now) (map units_of bills.now) (held ps)) }
 {
     let mut taken = Positions::new();

@@ -8,10 +8,10 @@ returns-in-Enter-clause-reconciled g c = rw (c.in-Enter.is, ← c.deref.ensures.
 pub returns-in-Amend-clause-reconciled : goal.returns-in-Amend-clause-reconciled
 returns-in-Amend-clause-reconciled g c = rw (c.in-Amend.is, ← c.deref-in-Amend.ensures.value) (c.amend.ensures.reconciled)
 
-pub returns-in-Ok-clause-reconciled : goal.returns-in-Ok-clause-reconciled
-returns-in-Ok-clause-reconciled g c = rw (c.in-File.is) (λ o before after held same.
-    subst (λ ps. BookReconciled (g.S.Schedule.meaning c.args.book.now.schedule) o ps c.file.new.self.account) (sym same) (c.in-Ok.ensures.reconciled o before held))
+pub returns-in-File-clause-reconciled : goal.returns-in-File-clause-reconciled
+returns-in-File-clause-reconciled g c = rw (c.in-File.is) (λ o before after held same.
+    subst (λ ps. BookReconciled (g.S.Schedule.meaning c.args.book.now.schedule) o ps c.file.new.self.account) (sym same) (c.file.ensures.reconciled o before held))
 
-pub returns-in-Ok-give_up-clause-reconciled : goal.returns-in-Ok-give_up-clause-reconciled
-returns-in-Ok-give_up-clause-reconciled g c = rw (c.in-GiveUp.is) (λ o before after held same.
-    subst (λ ps. BookReconciled (g.S.Schedule.meaning c.args.book.now.schedule) o ps c.give_up.new.self.account) (sym same) (c.in-Ok-give_up.ensures.reconciled o before held))
+pub returns-in-GiveUp-clause-reconciled : goal.returns-in-GiveUp-clause-reconciled
+returns-in-GiveUp-clause-reconciled g c = rw (c.in-GiveUp.is) (λ o before after held same.
+    subst (λ ps. BookReconciled (g.S.Schedule.meaning c.args.book.now.schedule) o ps c.give_up.new.self.account) (sym same) (c.give_up.ensures.reconciled o before held))

@@ -2,7 +2,7 @@ use Rattle.std.proofs.Common.{length, map, ap, arith}
 use Rattle.std.proofs.lemmas.Int.{ints}
 use Rattle.std.proofs.lemmas.List.{length-map}
 use Rattle.month.specs.View.{figures}
-use Rattle.settlement.specs.Answers.{units_of}
+use Rattle.settlement.specs.Settling.{units_of}
 use Rattle.settlement.proofs.Balances.{one_mechanism_more}
 use Rattle.settlement.proofs.balance.total.Goals as goal
 
@@ -13,8 +13,8 @@ returns-in_err-total g c =
 pub loop-number-preserved : goal.loop-number-preserved
 loop-number-preserved g c =
     let row = g.S.Schedule.meaning c.args.schedule.now in
-    let one = c.in_ok-total.ensures (omega arith) in
-    let more = one_mechanism_more row c.as_slice-opening-items.result.now (map figures c.args.months.now) (map units_of c.args.bills.now) c.loop-number.number c.opening-item.result c.in_ok-total.field-0 c.loop-number-test.true c.opening-item.is one.0 in
+    let one = c.in_ok-total.ensures in
+    let more = one_mechanism_more row c.as_slice-opening-items.result.now (map figures c.args.months.now) (map units_of c.args.bills.now) c.loop-number.number c.opening-item.result c.in_ok-total.field-0 c.loop-number-test.true c.opening-item.is one.1 in
     record {
       so_far = omega (arith, ints);
       size = omega (arith, ints);

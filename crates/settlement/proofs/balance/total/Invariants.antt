@@ -1,6 +1,6 @@
 use Rattle.std.proofs.Common.{◌≡◌, ◌*◌, ◌≤◌, map, nat_abs}
 use Rattle.month.specs.View.{figures}
-use Rattle.settlement.specs.Answers.{units_of}
+use Rattle.settlement.specs.Settling.{units_of}
 use Rattle.settlement.specs.Bounds.{greatest_outstanding}
 use Rattle.settlement.proofs.Balances.{total_so_far}
 use Rattle.settlement.proofs.balance.total.Given as goal

@@ -1,5 +1,5 @@
 use Rattle.std.proofs.Common.{◌≡◌, map, take}
-use Rattle.settlement.specs.Answers.{units_of}
+use Rattle.settlement.specs.Settling.{units_of}
 use Rattle.settlement.specs.Positions.{corrected}
 use Rattle.settlement.proofs.settling.announce.Given as goal
 

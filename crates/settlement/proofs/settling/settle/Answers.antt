@@ -1,4 +1,4 @@
-use Rattle.settlement.specs.Answers.{left_by}
+use Rattle.settlement.specs.Settling.{left_by}
 use Rattle.settlement.proofs.Settled.{settled_from_positions}
 use Rattle.settlement.proofs.settling.settle.Goals as goal
 

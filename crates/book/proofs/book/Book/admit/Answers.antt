@@ -2,7 +2,7 @@
 use Rattle.std.proofs.Common.{◌≡◌, length, ◌∙◌, sym, rules}
 use Rattle.std.proofs.lemmas.Result.{err_from_is_err_and}
 use Rattle.std.proofs.lemmas.List.{length-map}
-use Rattle.settlement.specs.Answers.{opening_units}
+use Rattle.settlement.specs.Settling.{opening_units}
 use Rattle.book.proofs.Admitted.{late_refused, unfit_refused}
 use Rattle.book.proofs.book.Book.admit.Goals as goal
 

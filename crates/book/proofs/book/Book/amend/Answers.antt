@@ -1,8 +1,8 @@
--- A file that is taken amends a month, and is the next posting.
+-- A file that is accepted amends a month, and is the next posting.
 use Rattle.std.proofs.Common.{ap, subst}
 use Rattle.std.proofs.lemmas.Result.{err_from_is_err_and}
 use Rattle.month.specs.View.{figures}
-use Rattle.settlement.specs.Answers.{answered}
+use Rattle.settlement.specs.Settling.{answered}
 use Rattle.book.specs.Amending.{SettlesNow}
 use Rattle.book.specs.declared.kind.PostingKind.TheVariants.{Amendment}
 use Rattle.book.proofs.Admitted.{none_refused}

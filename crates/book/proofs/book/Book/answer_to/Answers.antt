@@ -1,6 +1,6 @@
 -- The months that stand and the one that is asked about are fit, so that they can be settled.
 use Rattle.month.specs.View.{figures}
-use Rattle.settlement.specs.Answers.{answered}
+use Rattle.settlement.specs.Settling.{answered}
 use Rattle.book.specs.declared.kind.PostingKind.TheVariants.{Entry}
 use Rattle.book.proofs.Admits.{asked_inside}
 use Rattle.book.proofs.Settles.{settles, answers_held}

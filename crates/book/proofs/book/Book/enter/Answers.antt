@@ -1,9 +1,9 @@
--- A file that is taken is the next posting.
+-- A file that is accepted is the next posting.
 use Rattle.std.proofs.lemmas.Result.{err_from_is_err_and}
-use Rattle.settlement.specs.Answers.{answered}
+use Rattle.settlement.specs.Settling.{answered}
 use Rattle.book.specs.declared.kind.PostingKind.TheVariants.{Entry}
 use Rattle.book.proofs.Admitted.{none_refused}
-use Rattle.book.proofs.Counted.{taken_reconciled}
+use Rattle.book.proofs.Counted.{accepted_reconciled}
 use Rattle.book.proofs.book.Book.enter.Goals as goal
 
 pub returns-in_err-month-clause-accepts : goal.returns-in_err-month-clause-accepts
@@ -13,4 +13,4 @@ returns-in_err-month-clause-accepts g c m valid is clear =
 
 pub returns-clause-reconciled : goal.returns-clause-reconciled
 returns-clause-reconciled g c =
-    taken_reconciled (g.S.Schedule.meaning c.args.self.now.schedule) c.args.file.now c.in_ok-month.month c.args.self.now.account c.add-duty.new.self.account (answered c.answer_to-settled.result) c.add-duty.result c.in_ok-month.ensures.0 c.in_ok-month.ensures.1 c.answer_to-settled.ensures c.add-duty.ensures.added
+    accepted_reconciled (g.S.Schedule.meaning c.args.self.now.schedule) c.args.file.now c.in_ok-month.month c.args.self.now.account c.add-duty.new.self.account (answered c.answer_to-settled.result) c.add-duty.result c.in_ok-month.ensures.0 c.in_ok-month.ensures.1 c.answer_to-settled.ensures c.add-duty.ensures.added

@@ -1,6 +1,9 @@
-use Rattle.book.proofs.Marks.{filed_reconciled}
+use Rattle.book.proofs.Marks.{duty_marks, duty_reconciled}
 use Rattle.book.proofs.book.Book.give_up.Goals as goal
 
 pub returns-clause-reconciled : goal.returns-clause-reconciled
 returns-clause-reconciled g c o ps =
-    filed_reconciled c.spend.result _ o ps c.args.self.now _ _ _ c.spend.ensures.cases c.spend.ensures.refused
+    duty_reconciled c.spend.result _ o ps c.args.self.now _ _ _ c.spend.ensures.cases c.spend.ensures.refused
+
+pub returns-clause-marks : goal.returns-clause-marks
+returns-clause-marks g c = duty_marks c.spend.result _ _ _ _ c.spend.ensures.cases

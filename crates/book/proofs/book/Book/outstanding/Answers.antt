@@ -4,7 +4,7 @@ use Rattle.std.proofs.lemmas.List.{length-map}
 use Rattle.std.proofs.lemmas.Option.{gets, slice_get_within}
 use Rattle.bounded.specs.View.{held}
 use Rattle.month.specs.View.{figures}
-use Rattle.settlement.specs.Answers.{units_of, opening_units}
+use Rattle.settlement.specs.Settling.{units_of, opening_units}
 use Rattle.book.proofs.Fits.{fit_all_lawful}
 use Rattle.book.proofs.Told.{told_outstanding}
 use Rattle.book.proofs.book.Book.outstanding.Goals as goal
@@ -24,4 +24,4 @@ returns g c =
     let within : i < length openings = slice_get_within openings i _ here in
     let small : i ≤ 7 = omega (arith, c.as_slice.ensures.most) in
     let all = fit_all_lawful row ms i (g.met.S.Schedule.lawful b.schedule) sound.fit (omega (arith, length-map b.months.items figures, sound.few)) (omega (arith, length-map openings (λ o. o.units))) in
-    rw (← c.self.view_is, c.in_ok-opened.was) (told_outstanding row ms (map units_of b.billed.items) i openings c.in_ok-opening.opening c.outstanding.result here all (rw (← c.as_slice-2.ensures.value, ← c.as_slice-3.ensures.value) (c.outstanding.ensures small)))
+    rw (← c.self.view_is, c.in_ok-opened.was) (told_outstanding row ms (map units_of b.billed.items) i openings c.in_ok-opening.opening c.outstanding.result here small all (rw (← c.as_slice-2.ensures.value, ← c.as_slice-3.ensures.value) c.outstanding.ensures))

@@ -1,7 +1,7 @@
 use Rattle.std.proofs.Common.{◌≡◌, length, map, sym, arith}
 use Rattle.std.proofs.lemmas.List.{length-map}
 use Rattle.month.specs.View.{figures}
-use Rattle.settlement.specs.Answers.{units_of, opening_units}
+use Rattle.settlement.specs.Settling.{units_of, opening_units}
 use Rattle.book.proofs.Fits.{fit_each_lawful}
 use Rattle.book.proofs.Told.{told_total}
 use Rattle.book.proofs.book.Book.total.Goals as goal

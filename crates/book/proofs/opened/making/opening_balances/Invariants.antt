@@ -1,7 +1,7 @@
 use Rattle.std.proofs.Common.{◌≡◌, ◌≤◌, true, length, take}
 use Rattle.std.specs.List.{list_all}
 use Rattle.bounded.specs.View.{held}
-use Rattle.settlement.specs.Answers.{opening_units}
+use Rattle.settlement.specs.Settling.{opening_units}
 use Rattle.book.specs.Opening.{is_balance}
 use Rattle.book.proofs.opened.making.opening_balances.Given as goal
 

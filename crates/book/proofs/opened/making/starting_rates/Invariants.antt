@@ -1,7 +1,7 @@
 use Rattle.std.proofs.Common.{◌≡◌, ◌≤◌, true, length, take, map, pos}
 use Rattle.std.specs.List.{list_all}
 use Rattle.bounded.specs.View.{held}
-use Rattle.settlement.specs.Answers.{units_of}
+use Rattle.settlement.specs.Settling.{units_of}
 use Rattle.book.specs.Opening.{is_starting_rate}
 use Rattle.book.proofs.opened.making.starting_rates.Given as goal
 

@@ -1,7 +1,7 @@
 use Rattle.std.proofs.Common.{map, take}
 use Rattle.bounded.specs.View.{held}
 use Rattle.month.specs.View.{figures}
-use Rattle.settlement.specs.Answers.{units_of}
+use Rattle.settlement.specs.Settling.{units_of}
 use Rattle.settlement.specs.Positions.{ArePositions}
 use Rattle.settlement.proofs.position.taking.positions.Given as goal
 

@@ -1,12 +1,12 @@
 -- What settling answers.
-use Rattle.std.specs.Prelude.{ℕ, ◌-◌, ◌<◌, Bool, List, map, length, ℤ, pos, ◌+ℤ◌, Option, Some, None, slice_index_or}
+use Rattle.std.specs.Prelude.{ℕ, ◌-◌, ◌<◌, Bool, List, map, length, ℤ, pos, Option, Some, None, slice_index_or}
 use Rattle.bounded.specs.View.{held}
 use Rattle.bounded.specs.declared.up_to.UpTo.{UpTo}
 use Rattle.charges.specs.Meaning.{Meaning}
 use Rattle.month.specs.Figures.{Figures}
 use Rattle.schedule.specs.Rows.{numbered}
 use Rattle.settlement.specs.Bands.{band}
-use Rattle.settlement.specs.Corrections.{correction}
+use Rattle.settlement.specs.Corrections.{coming_rate}
 use Rattle.settlement.specs.Months.{quantity_at, Settleable}
 use Rattle.settlement.specs.Numbers.{by_number}
 use Rattle.settlement.specs.Rules.{outstanding, total, revenue}
@@ -39,10 +39,10 @@ abbrev pub left_by : Option Record → Standing
 left_by None = Steady
 left_by (Some before) = before.standing
 
--- the rate announced for mechanism i: the last month's base rate, and the correction
+-- the rate announced for mechanism i
 abbrev pub announced_rate : Meaning → ℕ → Standing → Bool → ℕ → ℤ → List Figures → List (List ℤ) → ℤ
 announced_rate k i standing barred spread opening ms bills =
-    pos (k.assessed ms).0 +ℤ correction standing barred spread (outstanding k i opening ms bills) (quantity_at k ms (length ms - 1))
+    coming_rate (k.assessed ms).0 standing barred spread (outstanding k i opening ms bills) (quantity_at k ms (length ms - 1))
 
 -- the figures that the last of the months closes with, by the opening balances, of which there is one for each mechanism
 abbrev pub closing_now : List Meaning → List ℤ → List Figures → List (List ℤ) → Closing
@@ -64,5 +64,5 @@ settled row spread balances ms bills left barred =
     }
 
 -- each of the first n mechanisms can be settled: a month stands, at most 36 do, and its answers keep the law
-abbrev pub Lawfully : List Meaning → ℕ → List Figures → Type 0
-Lawfully row n ms = (i : ℕ) → i < n → Settleable (numbered row i) ms
+abbrev pub EachSettleable : List Meaning → ℕ → List Figures → Type 0
+EachSettleable row n ms = (i : ℕ) → i < n → Settleable (numbered row i) ms
