@@ -10,7 +10,7 @@ use Rattle.fields.specs.Words.{layer_word, refusal_words}
 use Rattle.fields.specs.declared.refusal.Layer.{Layer}
 use Rattle.fields.specs.declared.refusal.Layer.TheVariants.{File, Month, Book}
 use Rattle.fields.specs.declared.refusal.Refusal.{Refusal}
-use Rattle.settlement.specs.Answers.{Answered, answered}
+use Rattle.settlement.specs.Settling.{Answered, answered}
 use Rattle.settlement.specs.Words.{standing_word}
 use Rattle.settlement.specs.declared.standing.Standing.{Standing}
 use Rattle.settlement.specs.declared.standing.Standing.TheVariants.{Steady, Correcting}

@@ -1,5 +1,5 @@
 -- A run has one output.
-use Rattle.std.proofs.Common.{◌≡◌, ℕ, ◌++◌, List, [], ◌∷◌, length, Option, Some, None, Result, Ok, Err, MatchResult, refl, ap, sym, ◌∙◌, subst, inl, inr, arith, append_assoc, append-nil}
+use Rattle.std.proofs.Common.{◌≡◌, ℕ, ◌++◌, List, [], ◌∷◌, length, Option, Some, None, Result, Ok, Err, MatchResult, refl, ap, sym, ◌∙◌, subst, ◌⊎◌, inl, inr, arith, append_assoc, append-nil}
 use Rattle.std.specs.List.{All, flat_map}
 use Rattle.std.proofs.lemmas.List.Elements.{All-head, All-tail}
 use Rattle.book.specs.Account.{Account}
@@ -23,13 +23,13 @@ use Rattle.month.specs.declared.fault.FileFault.{FileFault}
 use Rattle.month.specs.declared.fault.MonthFault.TheVariants.{File}
 use Rattle.monthfile.specs.Questions.{file_asked, asked}
 use Rattle.monthfile.proofs.Exact.{file_same}
-use Rattle.settlement.specs.Answers.{answered}
+use Rattle.settlement.specs.Settling.{answered}
 use Rattle.settlement.specs.declared.answer.Answer.{Answer}
 use Rattle.settlement.specs.declared.record.Mark.TheVariants.{Filed}
 use Rattle.printed.specs.Frames.{Framed, WellFormed, frame_bytes, BeginsNoFrame}
 use Rattle.printed.specs.Frames.Framed.{Opens, Enters, Amends}
 use Rattle.printed.specs.Lines.{line_bytes, answer_fields, letter, spaced}
-use Rattle.printed.specs.Runs.{State, EntersBy, AmendsBy, Works, Exchange, WorksAll, lines_of, Ends, Printed, NextLine, LacksRoom}
+use Rattle.printed.specs.Runs.{State, EntersBy, AmendsBy, RefusesPosting, Works, Exchange, WorksAll, lines_of, Ends, Printed, NextLine, LacksRoom}
 use Rattle.printed.specs.declared.call.Call.{Call}
 use Rattle.printed.specs.declared.call.Call.TheVariants as call
 use Rattle.printed.specs.declared.line.Line.{Line}
@@ -67,6 +67,23 @@ refused_once kind told before file x y a b d e p q r s same_a same_b =
     let lines : x ≡ y = p ∙ ap (λ f. line.Refused told (book_refusal f)) fault ∙ sym q in
     record { line = ap line_bytes lines; state = same_a ∙ sym same_b }
 
+-- what a file makes of a book is one, be it entered or an amendment: where it is accepted, as `By` says, the line and the state are one, and it is not refused too
+module _ (kind : PostingKind) (told : Call) (before : State) (file : List ℕ) (tells : ℕ → Answer → Line) (By : ℕ → Answer → State → Type 0)
+    (once : (m n : ℕ) (x y : Answer) (a b : State) → By m x a → By n y b → Same (tells m x) (tells n y) a b)
+    (not_refused : (m : ℕ) (x : Answer) (a : State) (d : BookFault) → By m x a → PostingRefused kind before.charges before.account file d → ⊥) where
+  abbrev Makes : Line → State → Type 0
+  Makes l after =
+      ((month : ℕ) × (answer : Answer) × (l ≡ tells month answer) × By month answer after)
+      ⊎ ((fault : BookFault) × (l ≡ line.Refused told (book_refusal fault)) × RefusesPosting kind before file fault after)
+
+  posting_once : (x y : Line) (a b : State) → Makes x a → Makes y b → Same x y a b
+  posting_once x y a b (inl p) (inl q) =
+      let same = once p.0 q.0 p.1 q.1 a b p.3 q.3 in
+      record { line = ap line_bytes p.2 ∙ same.line ∙ sym (ap line_bytes q.2); state = same.state }
+  posting_once x y a b (inl p) (inr q) = absurd (not_refused p.0 p.1 a q.0 p.3 q.2.refuses)
+  posting_once x y a b (inr p) (inl q) = absurd (not_refused q.0 q.1 b p.0 q.3 p.2.refuses)
+  posting_once x y a b (inr p) (inr q) = refused_once kind told before file x y a b p.0 q.0 p.1 q.1 p.2.refuses q.2.refuses p.2.same q.2.same
+
 module _ (before : State) (file : List ℕ) where
   entered_once : (m n : ℕ) (x y : Answer) (a b : State) → EntersBy before file m x a → EntersBy before file n y b → Same (line.Entered m x) (line.Entered n y) a b
   entered_once m n x y a b p q =
@@ -96,27 +113,17 @@ module _ (before : State) (file : List ℕ) where
         state = λ i. record { charges = row i; account = held i };
       }
 
-  entered_not_refused : {m : ℕ} {x : Answer} {a : State} {d : BookFault} → EntersBy before file m x a → PostingRefused Entry before.charges before.account file d → ⊥
-  entered_not_refused {m} {x} {a} {d} p r = none_refused Entry before.charges before.account file p.enters.stated d p.enters.valid p.enters.file_states p.enters.asked r
+  entered_not_refused : (m : ℕ) (x : Answer) (a : State) (d : BookFault) → EntersBy before file m x a → PostingRefused Entry before.charges before.account file d → ⊥
+  entered_not_refused m x a d p r = none_refused Entry before.charges before.account file p.enters.stated d p.enters.valid p.enters.file_states p.enters.asked r
 
-  amended_not_refused : {m : ℕ} {x : Answer} {a : State} {d : BookFault} → AmendsBy before file m x a → PostingRefused Amendment before.charges before.account file d → ⊥
-  amended_not_refused {m} {x} {a} {d} p r = none_refused Amendment before.charges before.account file p.amends.stated d p.amends.valid p.amends.file_states p.amends.asked r
+  amended_not_refused : (m : ℕ) (x : Answer) (a : State) (d : BookFault) → AmendsBy before file m x a → PostingRefused Amendment before.charges before.account file d → ⊥
+  amended_not_refused m x a d p r = none_refused Amendment before.charges before.account file p.amends.stated d p.amends.valid p.amends.file_states p.amends.asked r
 
   entry_once : (x y : Line) (a b : State) → Works before (Enters file) x a → Works before (Enters file) y b → Same x y a b
-  entry_once x y a b (inl p) (inl q) =
-      let same = entered_once p.0 q.0 p.1 q.1 a b p.3 q.3 in
-      record { line = ap line_bytes p.2 ∙ same.line ∙ sym (ap line_bytes q.2); state = same.state }
-  entry_once x y a b (inl p) (inr q) = absurd (entered_not_refused p.3 q.2.refuses)
-  entry_once x y a b (inr p) (inl q) = absurd (entered_not_refused q.3 p.2.refuses)
-  entry_once x y a b (inr p) (inr q) = refused_once Entry call.Entry before file x y a b p.0 q.0 p.1 q.1 p.2.refuses q.2.refuses p.2.same q.2.same
+  entry_once = posting_once Entry call.Entry before file line.Entered (EntersBy before file) entered_once entered_not_refused
 
   amendment_once : (x y : Line) (a b : State) → Works before (Amends file) x a → Works before (Amends file) y b → Same x y a b
-  amendment_once x y a b (inl p) (inl q) =
-      let same = amended_once p.0 q.0 p.1 q.1 a b p.3 q.3 in
-      record { line = ap line_bytes p.2 ∙ same.line ∙ sym (ap line_bytes q.2); state = same.state }
-  amendment_once x y a b (inl p) (inr q) = absurd (amended_not_refused p.3 q.2.refuses)
-  amendment_once x y a b (inr p) (inl q) = absurd (amended_not_refused q.3 p.2.refuses)
-  amendment_once x y a b (inr p) (inr q) = refused_once Amendment call.Amendment before file x y a b p.0 q.0 p.1 q.1 p.2.refuses q.2.refuses p.2.same q.2.same
+  amendment_once = posting_once Amendment call.Amendment before file line.Amended (AmendsBy before file) amended_once amended_not_refused
 
 opening_once : (before : State) (k : ℕ) (g : Given) (x y : Line) (a b : State) → Works before (Opens k g) x a → Works before (Opens k g) y b → Same x y a b
 opening_once before k g x y a b (inl p) (inl q) = record { line = ap line_bytes (p.0 ∙ sym q.0); state = p.1.book ∙ sym q.1.book }

@@ -6,7 +6,7 @@ use Rattle.std.proofs.lemmas.List.{flat_map_more}
 use Rattle.book.specs.Account.{marks_told}
 use Rattle.printed.specs.Frames.{Framed, framed, WellFormed, frame_bytes, BeginsNoFrame, AtEnd, FrameAt, NoFrameAt}
 use Rattle.printed.specs.declared.frame.Frame.{Frame}
-use Rattle.printed.specs.Journals.{Journaled, Carries, CarriesAll, PrintedWith, LacksRoomWith}
+use Rattle.printed.specs.Journals.{Journaled, CarriesJournal, CarriesJournalAll, PrintedWith, LacksRoomWith}
 use Rattle.printed.specs.Lines.{line_bytes}
 use Rattle.printed.specs.Runs.{State, Works, Exchange, WorksAll, Worked, lines_of, Ends}
 use Rattle.printed.proofs.Journals.{carries_one_more}
@@ -27,7 +27,7 @@ works_one_more before between after (y ∷ ys) x first works = (first.0, first.1
 pub record SoFar (before : State) (input : List ℕ) (old : List ℕ) (p : ℕ) (new : List ℕ) (after : State) : Type 0 where
   pub exchanges : List Exchange
   pub worked : Worked before input exchanges (drop p input) after
-  pub carries : CarriesAll before exchanges after
+  pub carries : CarriesJournalAll before exchanges after
   pub within : p ≤ length input
   pub output : new ≡ old ++ lines_of exchanges
 
@@ -39,7 +39,7 @@ module _ {before : State} {input : List ℕ} {old new : List ℕ} {p : ℕ} {bet
     still_within : q ≤ length input
     still_within = omega (arith, ap length stands.split, length-append (frame_bytes frame) (drop q input), length-drop p input, length-drop q input, stands.moved, so_far.within)
 
-    module _ (after : State) (told : Line) (works : Works between frame told after) (carries : Carries between after (Journaled (marks_told between.account) frame told)) where
+    module _ (after : State) (told : Line) (works : Works between frame told after) (carries : CarriesJournal between after (Journaled (marks_told between.account) frame told)) where
       worked_also : Worked before input (also so_far.exchanges frame told) (drop q input) after
       worked_also = record {
         split = so_far.worked.split ∙ ap (λ l. flat_map (λ (x : Exchange). frame_bytes x.frame) so_far.exchanges ++ l) stands.split ∙ sym (append_assoc _ (frame_bytes frame) (drop q input)) ∙ ap (λ l. l ++ drop q input) (flat_map_more (λ (x : Exchange). frame_bytes x.frame) [] so_far.exchanges (record { frame = frame; told = told }));
@@ -47,7 +47,7 @@ module _ {before : State} {input : List ℕ} {old new : List ℕ} {p : ℕ} {bet
         works = works_one_more before between after so_far.exchanges (record { frame = frame; told = told }) so_far.worked.works works;
       }
 
-      carries_also : CarriesAll before (also so_far.exchanges frame told) after
+      carries_also : CarriesJournalAll before (also so_far.exchanges frame told) after
       carries_also = carries_one_more before between after so_far.exchanges (record { frame = frame; told = told }) so_far.carries works carries
 
       pub one_more : SoFar before input old q (new ++ line_bytes told) after
@@ -60,7 +60,7 @@ module _ {before : State} {input : List ℕ} {old new : List ℕ} {p : ℕ} {bet
       }
 
       -- there was no room for the frame's line
-      pub line_does_not_fit : (room : ℕ) → room < length new + length (line_bytes told) → LacksRoomWith CarriesAll before input room old new after
+      pub line_does_not_fit : (room : ℕ) → room < length new + length (line_bytes told) → LacksRoomWith CarriesJournalAll before input room old new after
       line_does_not_fit room short = (
         record {
           exchanges = also so_far.exchanges frame told;
@@ -75,7 +75,7 @@ module _ {before : State} {input : List ℕ} {old new : List ℕ} {p : ℕ} {bet
         carries_also,
       )
 
-  pub at_end : {q : ℕ} → AtEnd input p q → PrintedWith CarriesAll before input old new between
+  pub at_end : {q : ℕ} → AtEnd input p q → PrintedWith CarriesJournalAll before input old new between
   at_end end = (
     record {
       exchanges = so_far.exchanges;
@@ -96,7 +96,7 @@ module _ {before : State} {input : List ℕ} {old new : List ℕ} {p : ℕ} {bet
     ends_with [] begins at = absurd (omega (arith, begins.some))
     ends_with (b ∷ bs) begins at = (begins, ap (λ p. line_bytes (line.NoFrame p)) at)
 
-    at_no_frame : PrintedWith CarriesAll before input old (new ++ line_bytes (line.NoFrame e.at)) between
+    at_no_frame : PrintedWith CarriesJournalAll before input old (new ++ line_bytes (line.NoFrame e.at)) between
     at_no_frame = (
       record {
         exchanges = so_far.exchanges;
@@ -109,7 +109,7 @@ module _ {before : State} {input : List ℕ} {old new : List ℕ} {p : ℕ} {bet
       so_far.carries,
     )
 
-    last_line_does_not_fit : (room : ℕ) → room < length new + length (line_bytes (line.NoFrame e.at)) → LacksRoomWith CarriesAll before input room old new between
+    last_line_does_not_fit : (room : ℕ) → room < length new + length (line_bytes (line.NoFrame e.at)) → LacksRoomWith CarriesJournalAll before input room old new between
     last_line_does_not_fit room short = (
       record {
         exchanges = so_far.exchanges;
@@ -126,9 +126,9 @@ module _ {before : State} {input : List ℕ} {old new : List ℕ} {p : ℕ} {bet
 
     -- the last line was appended, or there was no room for it
     pub end_of_run : {E : Type 0} {last : List ℕ} (printed : Result Unit E) (room capacity : ℕ) → room ≤ capacity → last ≡ (if is_ok printed then new ++ line_bytes (line.NoFrame e.at) else new) → OnErr printed (capacity < length new + length (line_bytes (line.NoFrame e.at)))
-        → MatchResult printed (λ _. PrintedWith CarriesAll before input old last between) (λ _. LacksRoomWith CarriesAll before input room old last between)
-    end_of_run (Ok u) room capacity most is full = subst (λ (l : List ℕ). PrintedWith CarriesAll before input old l between) (sym is) at_no_frame
-    end_of_run (Err x) room capacity most is full = subst (λ (l : List ℕ). LacksRoomWith CarriesAll before input room old l between) (sym is) (last_line_does_not_fit room (omega (arith, most, full)))
+        → MatchResult printed (λ _. PrintedWith CarriesJournalAll before input old last between) (λ _. LacksRoomWith CarriesJournalAll before input room old last between)
+    end_of_run (Ok u) room capacity most is full = subst (λ (l : List ℕ). PrintedWith CarriesJournalAll before input old l between) (sym is) at_no_frame
+    end_of_run (Err x) room capacity most is full = subst (λ (l : List ℕ). LacksRoomWith CarriesJournalAll before input room old l between) (sym is) (last_line_does_not_fit room (omega (arith, most, full)))
 
 -- what the reader found, in the input that it reads
 pub found_frame : {s input : List ℕ} {p q : ℕ} {next : Option Frame} {f : Frame} → s ≡ input → MatchOption next (AtEnd s p q) (λ x. FrameAt s p q (framed x)) → next ≡ Some f → FrameAt input p q (framed f)

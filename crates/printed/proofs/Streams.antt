@@ -3,7 +3,7 @@ use Rattle.std.proofs.Common.{◌≡◌, ℕ, ◌+◌, ◌<◌, Bool, true, fals
 use Rattle.std.proofs.lemmas.Option.{slice_get_within, get_or_from_slice_get}
 use Rattle.std.proofs.lemmas.List.{get_or-drop}
 use Rattle.fields.specs.Bytes.{field_of}
-use Rattle.fields.specs.Heads.{field_asked, size_at, may, Parts, Stopped}
+use Rattle.fields.specs.Heads.{field_asked, size_at, allows_length, Parts, NoFieldAt}
 use Rattle.fields.specs.Questions.{first_no}
 use Rattle.fields.specs.Refusals.{field_refusal}
 use Rattle.fields.specs.declared.due.Due.{Due}
@@ -40,7 +40,7 @@ module _ (p : ℕ) (e : FieldFault) where
   place_among true true true true is = absurd (some_none (sym is))
 
   place_asked : (bs : List ℕ) (d : Due) → first_no (field_asked bs p d) ≡ Some e → (field_refusal e).place ≡ p
-  place_asked bs d is = place_among (nat_le (p + 3) (length bs)) (slice_index bs p == d.tag) (may d (size_at bs p)) (nat_le (p + 3 + size_at bs p) (length bs)) is
+  place_asked bs d is = place_among (nat_le (p + 3) (length bs)) (slice_index bs p == d.tag) (allows_length d (size_at bs p)) (nat_le (p + 3 + size_at bs p) (length bs)) is
 
 module _ (bs : List ℕ) (p : ℕ) (tag : ℕ) (next : slice_get bs p ≡ Some tag) where
   within : p < length bs
@@ -62,7 +62,7 @@ module _ (bs : List ℕ) (p : ℕ) (tag : ℕ) (next : slice_get bs p ≡ Some t
       let yes : first_no (field_asked bs p d) ≡ None = subst (λ (i : ℕ). first_no (field_asked bs i d) ≡ None) at (field_present bs (take p bs) value later d whole parts) in
       some_none (sym stopped ∙ yes)
 
-  module _ (q : ℕ) (e : FieldFault) (due : Due) (stopped : Stopped bs p q due e) where
+  module _ (q : ℕ) (e : FieldFault) (due : Due) (stopped : NoFieldAt bs p q due e) where
     -- where a field is not found, none stands that would have been due by the tag
     not_there : (d : Due) (value later : List ℕ) → Parts d (length value) → (d.tag ≡ tag → d ≡ due) → drop p bs ≡ field_of d.tag value ++ later → ⊥
     not_there d value later parts by_tag here =

@@ -7,7 +7,7 @@ use Rattle.book.specs.Reconciled.{BookReconciled}
 use Rattle.book.specs.Tally.{Posting, Posts}
 use Rattle.book.specs.declared.kind.PostingKind.{PostingKind}
 use Rattle.book.specs.declared.kind.PostingKind.TheVariants.{Entry, Amendment}
-use Rattle.settlement.specs.Answers.{Answered, answered}
+use Rattle.settlement.specs.Settling.{Answered, answered}
 use Rattle.settlement.specs.declared.record.Mark.{Mark}
 use Rattle.printed.specs.Frames.{Framed}
 use Rattle.printed.specs.Frames.Framed.{Opens, Enters, Amends}
@@ -56,12 +56,12 @@ FactsHold s None = s.account ≡ None
 FactsHold s (Some j) = Facts s.charges j.opening j.postings (read_of s.charges s.account)
 
 -- a journal that agrees with the book before is carried on so, to one that agrees with the book after
-abbrev pub Carries : State → State → (Option Journal → Option Journal → Type 0) → Type 0
-Carries before after how = (begun : Option Journal) → Agrees before begun → (carried : Option Journal) × how begun carried × Agrees after carried
+abbrev pub CarriesJournal : State → State → (Option Journal → Option Journal → Type 0) → Type 0
+CarriesJournal before after how = (begun : Option Journal) → Agrees before begun → (carried : Option Journal) × how begun carried × Agrees after carried
 
 -- the same of frames that were worked one after another
-abbrev pub CarriesAll : State → List Exchange → State → Type 0
-CarriesAll before xs after = Carries before after (λ begun carried. JournaledAll before begun xs after carried)
+abbrev pub CarriesJournalAll : State → List Exchange → State → Type 0
+CarriesJournalAll before xs after = CarriesJournal before after (λ begun carried. JournaledAll before begun xs after carried)
 
 -- after frames that were worked so: how the journal was carried on, that the book agrees with it, and the facts
 pub record RunFacts (begun : Option Journal) (before : State) (xs : List Exchange) (after : State) : Type 0 where

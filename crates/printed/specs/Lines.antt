@@ -3,7 +3,7 @@ use Rattle.std.specs.Prelude.{◌≡◌, ◌↔◌, ℕ, ◌+◌, ◌<◌, List,
 use Rattle.std.specs.Fmt.{signed_decimal}
 use Rattle.std.specs.List.{flat_map}
 use Rattle.fields.specs.Words.{refusal_words}
-use Rattle.settlement.specs.Answers.{Answered, answered}
+use Rattle.settlement.specs.Settling.{Answered, answered}
 use Rattle.settlement.specs.Words.{standing_word}
 use Rattle.printed.specs.declared.call.Call.{Call}
 use Rattle.printed.specs.declared.call.Call.TheVariants.{Opening, Entry, Amendment}

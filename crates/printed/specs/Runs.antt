@@ -3,7 +3,7 @@ use Rattle.std.specs.Prelude.{◌≡◌, ℕ, ◌+◌, ◌-◌, ◌<◌, Bool, �
 use Rattle.std.specs.List.{flat_map}
 use Rattle.book.specs.Account.{Account, BookState}
 use Rattle.book.specs.Amending.{Amended}
-use Rattle.book.specs.Duties.{Spent, month_of}
+use Rattle.book.specs.Duties.{Spent, marked_book, month_of}
 use Rattle.book.specs.Entering.{Entered}
 use Rattle.book.specs.Opening.{Given, opening_asked, newly_opened}
 use Rattle.book.specs.Postings.{PostingRefused}
@@ -11,6 +11,7 @@ use Rattle.book.specs.Refusals.{book_refusal}
 use Rattle.book.specs.declared.duty.Duty.{Duty}
 use Rattle.book.specs.declared.fault.BookFault.{BookFault}
 use Rattle.book.specs.declared.fault.BookFault.TheVariants.{Opening as NotOpen}
+use Rattle.book.specs.declared.kind.PostingKind.{PostingKind}
 use Rattle.book.specs.declared.kind.PostingKind.TheVariants.{Entry, Amendment}
 use Rattle.charges.specs.Meaning.{Meaning}
 use Rattle.charges.specs.Refusals.{cap_told}
@@ -18,7 +19,7 @@ use Rattle.fields.specs.Questions.{first_no, carried}
 use Rattle.fields.specs.declared.refusal.Refusal.{Refusal}
 use Rattle.schedule.specs.Four.{four_charges, cap_of}
 use Rattle.schedule.specs.declared.four.FourCharges.{FourCharges}
-use Rattle.settlement.specs.Answers.{answered}
+use Rattle.settlement.specs.Settling.{answered}
 use Rattle.settlement.specs.declared.answer.Answer.{Answer}
 use Rattle.settlement.specs.declared.record.Mark.TheVariants.{Filed}
 use Rattle.printed.specs.Frames.{Framed, WellFormed, frame_bytes, BeginsNoFrame}
@@ -65,20 +66,15 @@ pub record EntersBy (before : State) (file : List ℕ) (month : ℕ) (answer : A
   pub of_duty : month ≡ month_of duty
   pub charges : after.charges ≡ before.charges
 
--- the file is refused, and the book is as it was
-pub record RefusesEntry (before : State) (file : List ℕ) (fault : BookFault) (after : State) : Type 0 where
-  pub refuses : PostingRefused Entry before.charges before.account file fault
+-- the file, to be entered or to amend its month, is refused, and the book is as it was
+pub record RefusesPosting (kind : PostingKind) (before : State) (file : List ℕ) (fault : BookFault) (after : State) : Type 0 where
+  pub refuses : PostingRefused kind before.charges before.account file fault
   pub same : after ≡ before
 
 -- the file amends its month, with this answer
 pub record AmendsBy (before : State) (file : List ℕ) (month : ℕ) (answer : Answer) (after : State) : Type 0 where
   pub amends : Amended before.charges before.account after.account file (answered answer) month
   pub charges : after.charges ≡ before.charges
-
--- the file is refused, and the book is as it was
-pub record RefusesAmendment (before : State) (file : List ℕ) (fault : BookFault) (after : State) : Type 0 where
-  pub refuses : PostingRefused Amendment before.charges before.account file fault
-  pub same : after ≡ before
 
 -- what a frame makes of the book, and the line that tells it
 abbrev pub Works : State → Framed → Line → State → Type 0
@@ -87,10 +83,20 @@ Works before (Opens cap g) told after =
     ⊎ ((refusal : Refusal) × (told ≡ line.Refused call.Opening refusal) × RefusesOpening before cap g refusal after)
 Works before (Enters file) told after =
     ((month : ℕ) × (answer : Answer) × (told ≡ line.Entered month answer) × EntersBy before file month answer after)
-    ⊎ ((fault : BookFault) × (told ≡ line.Refused call.Entry (book_refusal fault)) × RefusesEntry before file fault after)
+    ⊎ ((fault : BookFault) × (told ≡ line.Refused call.Entry (book_refusal fault)) × RefusesPosting Entry before file fault after)
 Works before (Amends file) told after =
     ((month : ℕ) × (answer : Answer) × (told ≡ line.Amended month answer) × AmendsBy before file month answer after)
-    ⊎ ((fault : BookFault) × (told ≡ line.Refused call.Amendment (book_refusal fault)) × RefusesAmendment before file fault after)
+    ⊎ ((fault : BookFault) × (told ≡ line.Refused call.Amendment (book_refusal fault)) × RefusesPosting Amendment before file fault after)
+
+-- with the line of an entry comes the duty to file its month, with the number of the book; with no other line comes one
+abbrev pub handed_out : Line → Option Account → Option Duty
+handed_out (line.Entered month answer) (Some a) = Some (record { book = a.number; month = month })
+handed_out told account = None
+
+-- the state once the duty is filed that came with a line; where none came, it is the same
+abbrev pub once_filed : Option Duty → State → State
+once_filed None s = s
+once_filed (Some duty) s = record { charges = s.charges; account = marked_book Filed duty.month s.account }
 
 -- a frame, and the line that tells what became of it
 pub record Exchange : Type 0 where

@@ -1,14 +1,17 @@
 // The whole run.
-ghost use Rattle.std.specs.Prelude.{◌≡◌, ℕ, ◌+◌, ◌<◌, ◌≤◌, List, ◌++◌, if◌then◌else◌, Option, is_ok, OnErr, vec_capacity, length, MatchResult};
+ghost use Rattle.std.specs.Prelude.{◌≡◌, ℕ, ◌+◌, ◌<◌, ◌≤◌, List, ◌++◌, if◌then◌else◌, Option, None, is_ok, IfSome, OnErr, vec_capacity, length, MatchResult};
+ghost use Rattle.book.specs.Duties.{duty_asked};
 ghost use Rattle.book.specs.Reading.{NonePending};
-ghost use Rattle.printed.specs.Journals.{Agrees, CarriesAll, Journal, LacksRoomWith, PrintedWith, RunFacts};
+ghost use Rattle.fields.specs.Questions.{first_no};
+ghost use Rattle.printed.specs.Journals.{Agrees, CarriesJournalAll, Journal, LacksRoomWith, PrintedWith, RunFacts};
 ghost use Rattle.printed.specs.Lines.{line_bytes};
-ghost use Rattle.printed.specs.Runs.{State, state_of, Printed, LacksRoom};
+ghost use Rattle.printed.specs.Runs.{State, state_of, once_filed, Printed, LacksRoom};
 
 use crate::frames::Frames;
 use crate::line::Line;
+use crate::outcome::Outcome;
 use crate::working::work;
-use book::Book;
+use book::{Book, Duty};
 use schedule::FourCharges;
 use std::alloc::AllocError;
 
@@ -25,6 +28,21 @@ fn append_line(output: &mut Vec<u8>, line: &Line) -> Result<(), AllocError>
     output.extend_from_slice(&buffer[..length])
 }
 
+// Files the month of a duty that was handed out.
+fn file(book: &mut Book<FourCharges>, duty: Option<Duty>)
+    requires { IfSome duty (λ duty. first_no (duty_asked book.old.account duty) ≡ None) }
+    ensures { state_of book.new ≡ once_filed duty (state_of book.old) }
+{
+    let Some(duty) = duty else {
+        return;
+    };
+    match book.file(duty) {
+        Ok(()) => {}
+        // It is owed.
+        Err(_returned) => unreachable(),
+    }
+}
+
 // The run, by which any journal that agrees with the book is carried on.
 fn run_frames(
     book: &mut Book<FourCharges>,
@@ -32,22 +50,28 @@ fn run_frames(
     output: &mut Vec<u8>,
 ) -> Result<(), AllocError>
     ensures cases { MatchResult result
-        (λ _. PrintedWith CarriesAll (state_of book.old) input.now output.old.items output.new.items (state_of book.new))
-        (λ _. LacksRoomWith CarriesAll (state_of book.old) input.now (vec_capacity output.old) output.old.items output.new.items (state_of book.new)) }
+        (λ _. PrintedWith CarriesJournalAll (state_of book.old) input.now output.old.items output.new.items (state_of book.new))
+        (λ _. LacksRoomWith CarriesJournalAll (state_of book.old) input.now (vec_capacity output.old) output.old.items output.new.items (state_of book.new)) }
     ensures none_pending { NonePending book.old.account → NonePending book.new.account }
 {
     let mut frames = Frames::new(input);
     loop {
         match frames.read() {
-            Ok(Some(frame)) => append_line(output, &work(book, &frame))?,
+            Ok(Some(frame)) => {
+                let Outcome { line, duty } = work(book, &frame);
+                let appended = append_line(output, &line);
+                // Also where memory lacks: a duty has to be spent.
+                file(book, duty);
+                appended?;
+            }
             Ok(None) => return Ok(()),
             Err(none) => return append_line(output, &Line::NoFrame(none.at)),
         }
     }
 }
 
-// Works the frames of the input one after another, and appends a line for each; where no frame is next, a last line tells its offset. For want
-// of memory the run breaks off before the line that does not fit, whose frame has been worked.
+// Works the frames of the input one after another, appends a line for each, and files the month that it entered; where no frame is next, a last line
+// tells its offset. For want of memory the run breaks off before the line that does not fit, whose frame has been worked, and its month filed.
 pub fn write_run(
     book: &mut Book<FourCharges>,
     input: &[u8],

@@ -3,7 +3,7 @@ ghost use Rattle.std.specs.Prelude.{◌≡◌, ◌+◌, ◌*◌, ◌≤◌, ◌�
 ghost use Rattle.std.specs.Fmt.{signed_decimal};
 ghost use Rattle.arrayvec.specs.ArrayString.{array_string_len};
 ghost use Rattle.fields.specs.Words.{refusal_words};
-ghost use Rattle.settlement.specs.Answers.{answered};
+ghost use Rattle.settlement.specs.Settling.{answered};
 ghost use Rattle.printed.specs.Lines.{answer_fields, spaced, line_bytes};
 
 use crate::line::Line;

@@ -1,19 +1,22 @@
 // Working a frame.
-ghost use Rattle.std.specs.Prelude.{◌≡◌, ℕ, Some, OnOk, IfOk, MatchResult};
+ghost use Rattle.std.specs.Prelude.{◌≡◌, ℕ, Some, OnOk, IfOk, IfSome, MatchResult};
 ghost use Rattle.book.specs.Account.{marks_told};
+ghost use Rattle.book.specs.Duties.{duty_asked, month_of};
 ghost use Rattle.book.specs.Reading.{mark_told, NonePending};
 ghost use Rattle.book.specs.declared.kind.PostingKind.TheVariants.{Entry, Amendment};
-ghost use Rattle.settlement.specs.Answers.{answered};
+ghost use Rattle.fields.specs.Questions.{first_no};
+ghost use Rattle.settlement.specs.Settling.{answered};
 ghost use Rattle.settlement.specs.declared.record.Mark.TheVariants.{Filed};
 ghost use Rattle.printed.specs.Frames.{framed, given_by};
-ghost use Rattle.printed.specs.Journals.{Agrees, Carries, Continues, Journaled, begun_by};
-ghost use Rattle.printed.specs.Runs.{state_of, OpensBy, RefusesOpening, EntersBy, RefusesEntry, AmendsBy, RefusesAmendment, Works};
+ghost use Rattle.printed.specs.Journals.{Agrees, CarriesJournal, Continues, Journaled, begun_by};
+ghost use Rattle.printed.specs.Runs.{state_of, OpensBy, RefusesOpening, EntersBy, AmendsBy, RefusesPosting, Works, handed_out, once_filed};
 
 use crate::call::Call;
 use crate::frame::Frame;
 use crate::line::Line;
 use crate::opening::OpeningFrame;
-use book::{Answer, Book, BookFault};
+use crate::outcome::Outcome;
+use book::{Answer, Book, BookFault, Duty};
 use fields::Refusal;
 use schedule::FourCharges;
 
@@ -29,30 +32,27 @@ fn open(book: &mut Book<FourCharges>, frame: &OpeningFrame) -> Result<(), Refusa
     Ok(())
 }
 
-// Enters the file, and files the month at once.
-fn enter(book: &mut Book<FourCharges>, file: &[u8]) -> Result<(u16, Answer), BookFault>
+// Enters the file, and hands out the duty to file the month.
+fn enter(book: &mut Book<FourCharges>, file: &[u8]) -> Result<(Duty, Answer), BookFault>
     ensures cases { MatchResult result
-        (λ entered. EntersBy (state_of book.old) file.now entered.0 entered.1 (state_of book.new))
-        (λ e. RefusesEntry (state_of book.old) file.now e (state_of book.new)) }
-    ensures carries { IfOk result (λ entered. Carries (state_of book.old) (state_of book.new)
+        (λ entered. EntersBy (state_of book.old) file.now (month_of entered.0) entered.1 (once_filed (Some entered.0) (state_of book.new)))
+        (λ e. RefusesPosting Entry (state_of book.old) file.now e (state_of book.new)) }
+    ensures duty { IfOk result (λ entered. Some entered.0 ≡ handed_out (Line.Entered (month_of entered.0) entered.1) book.new.account) }
+    ensures owed { IfOk result (λ entered. first_no (duty_asked book.new.account entered.0) ≡ None) }
+    ensures carries { IfOk result (λ entered. CarriesJournal (state_of book.old) (once_filed (Some entered.0) (state_of book.new))
         (Continues Entry file.now (marks_told book.old.account) (answered entered.1))) }
 {
     let mut answer = Answer::default();
     let duty = book.enter(file, &mut answer)?;
-    let month = duty.month();
-    match book.file(duty) {
-        Ok(()) => Ok((month, answer)),
-        // A duty that was just handed out is owed.
-        Err(_returned) => unreachable(),
-    }
+    Ok((duty, answer))
 }
 
 // Amends the file's month.
 fn amend(book: &mut Book<FourCharges>, file: &[u8]) -> Result<(u16, Answer), BookFault>
     ensures cases { MatchResult result
         (λ amended. AmendsBy (state_of book.old) file.now amended.0 amended.1 (state_of book.new))
-        (λ e. RefusesAmendment (state_of book.old) file.now e (state_of book.new)) }
-    ensures carries { IfOk result (λ amended. Carries (state_of book.old) (state_of book.new)
+        (λ e. RefusesPosting Amendment (state_of book.old) file.now e (state_of book.new)) }
+    ensures carries { IfOk result (λ amended. CarriesJournal (state_of book.old) (state_of book.new)
         (Continues Amendment file.now (marks_told book.old.account) (answered amended.1))) }
     ensures none_pending { NonePending book.old.account → NonePending book.new.account }
 {
@@ -61,28 +61,40 @@ fn amend(book: &mut Book<FourCharges>, file: &[u8]) -> Result<(u16, Answer), Boo
     Ok((month, answer))
 }
 
-// What the frame asks for is done to the book, or refused, and told in a line.
-pub fn work(book: &mut Book<FourCharges>, frame: &Frame) -> Line
-    ensures works { Works (state_of book.old) (framed frame.now) result (state_of book.new) }
+// What the frame asks for is done to the book, or refused, and told in a line. With the line of an accepted entry comes the duty to file its month;
+// what is said of the state afterwards is said of it once that is filed.
+pub fn work(book: &mut Book<FourCharges>, frame: &Frame) -> Outcome
+    ensures works { Works (state_of book.old) (framed frame.now) result.line (once_filed result.duty (state_of book.new)) }
+    ensures duty { result.duty ≡ handed_out result.line book.new.account }
+    // Filing would not refuse the duty now.
+    ensures owed { IfSome result.duty (λ duty. first_no (duty_asked book.new.account duty) ≡ None) }
     // The month that is told is filed.
-    ensures filed { (month : ℕ) (answer : Answer) → result ≡ Line.Entered month answer → mark_told book.new.account month ≡ Some Filed }
+    ensures filed { (month : ℕ) (answer : Answer) → result.line ≡ Line.Entered month answer
+        → mark_told (once_filed result.duty (state_of book.new)).account month ≡ Some Filed }
     // Where no month was pending before, none is afterwards.
-    ensures none_pending { NonePending book.old.account → NonePending book.new.account }
+    ensures none_pending { NonePending book.old.account → NonePending (once_filed result.duty (state_of book.new)).account }
     // A journal that agrees with the book before is carried on by the frame, and agrees with it afterwards.
-    ensures journaled { Carries (state_of book.old) (state_of book.new) (Journaled (marks_told book.old.account) (framed frame.now) result) }
+    ensures journaled { CarriesJournal (state_of book.old) (once_filed result.duty (state_of book.new))
+        (Journaled (marks_told book.old.account) (framed frame.now) result.line) }
 {
-    match frame {
+    let line = match frame {
         Frame::Opening(frame) => match open(book, frame) {
             Ok(()) => Line::Opened(frame.number),
             Err(refusal) => Line::Refused(Call::Opening, refusal),
         },
         Frame::Entry(file) => match enter(book, file) {
-            Ok((month, answer)) => Line::Entered(month, answer),
+            Ok((duty, answer)) => {
+                return Outcome {
+                    line: Line::Entered(duty.month(), answer),
+                    duty: Some(duty),
+                };
+            }
             Err(fault) => Line::Refused(Call::Entry, Refusal::from(fault)),
         },
         Frame::Amendment(file) => match amend(book, file) {
             Ok((month, answer)) => Line::Amended(month, answer),
             Err(fault) => Line::Refused(Call::Amendment, Refusal::from(fault)),
         },
-    }
+    };
+    Outcome { line, duty: None }
 }

@@ -8,6 +8,7 @@ use Rattle.book.specs.Opening.{Given, newly_opened}
 use Rattle.book.specs.Tally.{Posting, entry, amendment}
 use Rattle.charges.specs.Meaning.{Meaning, price_of}
 use Rattle.month.specs.Figures.{Figures}
+use Rattle.month.specs.Sample.{sample_month}
 use Rattle.monthfile.specs.Layout.{file_of}
 use Rattle.schedule.specs.Four.{four_charges}
 use Rattle.settlement.specs.declared.record.Mark.TheVariants.{Filed}
@@ -28,29 +29,16 @@ opening lifeline = record {
 abbrev pub opened : ℕ → Account
 opened lifeline = newly_opened (opening lifeline)
 
--- a month of one source and one lifeline bracket, by its number and by what was recovered of stolen power
-abbrev pub sample : ℕ → ℕ → Figures
-sample month pilferage = record {
-  month = month;
-  sources = record { cost = 60000000; taken = 400000; passed = 0 } ∷ [];
-  pilferage = pilferage;
-  transmission = record { cost = 12000000; taken = 0; passed = 0 };
-  energy = record { input = 120000; substation = 2400; feeder = 9600 };
-  exempt = record { generation = 0; transmission = 0 };
-  brackets = record { kwh = 8000; customers = 400; percent = 50 } ∷ [];
-  sales = record { nonlifeline = 100000; rate = 80000; metering = 50000 };
-}
-
 -- the book with the sample as month 1, whose filing was made
 abbrev pub filed : Account
-filed = marked Filed 1 (with_month charges (opened 500) (sample 1 50000))
+filed = marked Filed 1 (with_month charges (opened 500) (sample_month 1 50000))
 
 -- the sample entered as month 1, by the starting rate of the lifeline charge; and then amended to a pilferage recovery of 0
 abbrev pub first : ℕ → Posting
-first lifeline = entry (file_of (sample 1 50000)) (sample 1 50000) [] (answer_to charges (opened lifeline) (sample 1 50000))
+first lifeline = entry (file_of (sample_month 1 50000)) (sample_month 1 50000) [] (answer_to charges (opened lifeline) (sample_month 1 50000))
 
 abbrev pub second : Posting
-second = amendment (file_of (sample 1 0)) (sample 1 0) (marks_of filed) (answer_now charges (replaced (sample 1 0) filed))
+second = amendment (file_of (sample_month 1 0)) (sample_month 1 0) (marks_of filed) (answer_now charges (replaced (sample_month 1 0) filed))
 
 -- a month of 100 kWh, of which 1 is sold at the full rate, and which costs nothing. A cost, of 100 units for each centavo, is on average as many units per
 -- kWh as it has centavos

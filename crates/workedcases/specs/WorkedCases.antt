@@ -3,7 +3,7 @@ use Rattle.std.specs.Prelude.{◌≡◌, ℕ, true, false, [], ◌∷◌, ◌++�
 use Rattle.book.specs.Account.{Account}
 use Rattle.book.specs.Amending.{answer_now, replaced}
 use Rattle.book.specs.Entering.{answer_to}
-use Rattle.book.specs.Facts.{balances_together, rate}
+use Rattle.book.specs.Facts.{total_by_tally, rate_by_tally}
 use Rattle.book.specs.Opening.{numbers_of}
 use Rattle.book.specs.Postings.{all_asked}
 use Rattle.book.specs.Refusals.{book_refusal}
@@ -16,13 +16,14 @@ use Rattle.fields.specs.declared.refusal.Layer.TheVariants as layer
 use Rattle.month.specs.Asked.{month_asked}
 use Rattle.month.specs.Figures.{Figures}
 use Rattle.month.specs.Refusals.{month_refusal}
+use Rattle.month.specs.Sample.{sample_month}
 use Rattle.monthfile.specs.Layout.{file_of}
 use Rattle.printed.specs.Lines.{line_bytes, answer_line}
 use Rattle.printed.specs.Runs.{frame_asked, closed}
 use Rattle.printed.specs.declared.call.Call.TheVariants as call
 use Rattle.printed.specs.declared.line.Line.TheVariants as line
 use Rattle.schedule.specs.Rows.{numbered}
-use Rattle.settlement.specs.Answers.{answered}
+use Rattle.settlement.specs.Settling.{answered}
 use Rattle.settlement.specs.Bands.{band}
 use Rattle.settlement.specs.Corrections.{spread_over}
 use Rattle.settlement.specs.Numbers.{by_number}
@@ -30,19 +31,19 @@ use Rattle.settlement.specs.Rules.{revenue}
 use Rattle.settlement.specs.declared.answer.Answer.{Answer}
 use Rattle.settlement.specs.declared.band.Band.TheVariants.{Beyond, Between, Within}
 use Rattle.settlement.specs.declared.standing.Standing.TheVariants.{Steady, Correcting}
-use Rattle.workedcases.specs.Sample.{charges, opening, opened, sample, filed, first, second, losing, power_at, transmission_at, lifeline_at, price_and_fit}
+use Rattle.workedcases.specs.Sample.{charges, opening, opened, filed, first, second, losing, power_at, transmission_at, lifeline_at, price_and_fit}
 
 pub record WorkedCases : Type 0 where
   -- month 1 entered into a newly opened book, and then amended to a pilferage recovery of 0
   pub opening_accepted : first_no (frame_asked closed 500 (opening 500)) ≡ None
-  pub entry_accepted : first_no (all_asked Entry charges (Some (opened 500)) (file_of (sample 1 50000)) (sample 1 50000)) ≡ None
-  pub entry_answered : answer_to charges (opened 500) (sample 1 50000) ≡ record {
+  pub entry_accepted : first_no (all_asked Entry charges (Some (opened 500)) (file_of (sample_month 1 50000)) (sample_month 1 50000)) ≡ None
+  pub entry_answered : answer_to charges (opened 500) (sample_month 1 50000) ≡ record {
     rates = pos 49791 ∷ pos 10000 ∷ pos 4645 ∷ pos 3300 ∷ [];
     closing = record { total = neg_ℤ (pos 104757845); revenue = 7289242155 };
     standing = Steady;
   }
-  pub amendment_accepted : first_no (all_asked Amendment charges (Some filed) (file_of (sample 1 0)) (sample 1 0)) ≡ None
-  pub amendment_answered : answer_now charges (replaced (sample 1 0) filed) ≡ record {
+  pub amendment_accepted : first_no (all_asked Amendment charges (Some filed) (file_of (sample_month 1 0)) (sample_month 1 0)) ≡ None
+  pub amendment_answered : answer_now charges (replaced (sample_month 1 0) filed) ≡ record {
     rates = pos 49833 ∷ pos 10000 ∷ pos 4649 ∷ pos 3300 ∷ [];
     closing = record { total = neg_ℤ (pos 99905398); revenue = 7294094602 };
     standing = Steady;
@@ -50,28 +51,30 @@ pub record WorkedCases : Type 0 where
   -- the lines that tell of these, and that the line of any answer of the program is that of what it answers
   pub opening_line : line_bytes (line.Opened 7) ≡ codes "O 7" ++ 10 ∷ []
   pub entry_line :
-      answer_line call.Entry 1 (answer_to charges (opened 500) (sample 1 50000)) ≡ codes "E 1 49791 10000 4645 3300 -104757845 7289242155 steady" ++ 10 ∷ []
+      answer_line call.Entry 1 (answer_to charges (opened 500) (sample_month 1 50000)) ≡ codes "E 1 49791 10000 4645 3300 -104757845 7289242155 steady" ++ 10 ∷ []
   pub amendment_line :
-      answer_line call.Amendment 1 (answer_now charges (replaced (sample 1 0) filed)) ≡ codes "A 1 49833 10000 4649 3300 -99905398 7294094602 steady" ++ 10 ∷ []
+      answer_line call.Amendment 1 (answer_now charges (replaced (sample_month 1 0) filed)) ≡ codes "A 1 49833 10000 4649 3300 -99905398 7294094602 steady" ++ 10 ∷ []
   pub line_of_an_entry : (m : ℕ) (a : Answer) → line_bytes (line.Entered m a) ≡ answer_line call.Entry m (answered a)
   pub line_of_an_amendment : (m : ℕ) (a : Answer) → line_bytes (line.Amended m a) ≡ answer_line call.Amendment m (answered a)
   -- the same total and revenue by the tally of the postings
-  pub entry_balances : balances_together (numbers_of (opening 500)) charges (tally (numbers_of (opening 500)) (first 500 ∷ [])) ≡ neg_ℤ (pos 104757845)
+  pub entry_balances : total_by_tally (numbers_of (opening 500)) charges (tally (numbers_of (opening 500)) (first 500 ∷ [])) ≡ neg_ℤ (pos 104757845)
   pub entry_revenue : revenue charges 4 (tally (numbers_of (opening 500)) (first 500 ∷ [])).months ≡ 7289242155
   pub amendment_balances :
-      balances_together (numbers_of (opening 500)) charges (tally (numbers_of (opening 500)) (first 500 ∷ second ∷ [])) ≡ neg_ℤ (pos 99905398)
+      total_by_tally (numbers_of (opening 500)) charges (tally (numbers_of (opening 500)) (first 500 ∷ second ∷ [])) ≡ neg_ℤ (pos 99905398)
   pub amendment_revenue : revenue charges 4 (tally (numbers_of (opening 500)) (first 500 ∷ second ∷ [])).months ≡ 7294094602
   -- with a starting rate of 8,000 of the lifeline charge, the total is beyond its band
-  pub correcting_entry_answered : answer_to charges (opened 8000) (sample 1 50000) ≡ record {
+  pub correcting_entry_answered : answer_to charges (opened 8000) (sample_month 1 50000) ≡ record {
     rates = pos 49757 ∷ pos 10000 ∷ pos 4086 ∷ pos 2517 ∷ [];
     closing = record { total = neg_ℤ (pos 854757845); revenue = 7289242155 };
     standing = Correcting;
   }
+  pub correcting_entry_line :
+      answer_line call.Entry 1 (answer_to charges (opened 8000) (sample_month 1 50000)) ≡ codes "E 1 49757 10000 4086 2517 -854757845 7289242155 correcting" ++ 10 ∷ []
   -- the same total and rates by the tally of the posting
   pub correcting_entry_balances :
-      balances_together (numbers_of (opening 8000)) charges (tally (numbers_of (opening 8000)) (first 8000 ∷ [])) ≡ neg_ℤ (pos 854757845)
+      total_by_tally (numbers_of (opening 8000)) charges (tally (numbers_of (opening 8000)) (first 8000 ∷ [])) ≡ neg_ℤ (pos 854757845)
   pub correcting_entry_rates :
-      by_number (λ i. rate (numbers_of (opening 8000)) [] Correcting (numbered charges i) i (tally (numbers_of (opening 8000)) (first 8000 ∷ []))) 4
+      by_number (λ i. rate_by_tally (numbers_of (opening 8000)) [] Correcting (numbered charges i) i (tally (numbers_of (opening 8000)) (first 8000 ∷ []))) 4
       ≡ pos 49757 ∷ pos 10000 ∷ pos 4086 ∷ pos 2517 ∷ []
   -- a tenth of the revenue, and one unit more
   pub tenth_not_beyond : band (pos 100) 1000 ≡ Between
@@ -98,8 +101,12 @@ pub record WorkedCases : Type 0 where
       → first_no (carried book_refusal (all_asked kind charges account [] m)) ≡ Some (record { number = 1; layer = layer.File; place = 0 })
   -- month 2 before month 1: question 12, of month 2
   pub month_2_first_refused :
-      first_no (carried book_refusal (all_asked Entry charges (Some (opened 500)) (file_of (sample 2 50000)) (sample 2 50000)))
+      first_no (carried book_refusal (all_asked Entry charges (Some (opened 500)) (file_of (sample_month 2 50000)) (sample_month 2 50000)))
       ≡ Some (record { number = 12; layer = layer.Book; place = 2 })
+  -- the lines of these two refusals, and the one that tells where no frame begins
+  pub empty_file_line : line_bytes (line.Refused call.Entry (record { number = 1; layer = layer.File; place = 0 })) ≡ codes "E refused 1 file 0" ++ 10 ∷ []
+  pub month_2_first_line : line_bytes (line.Refused call.Entry (record { number = 12; layer = layer.Book; place = 2 })) ≡ codes "E refused 12 book 2" ++ 10 ∷ []
+  pub no_frame_line : line_bytes (line.NoFrame 261) ≡ codes "X 261" ++ 10 ∷ []
   -- a price of 1,000,000 is fit, and one unit more is not; likewise a lifeline rate, which here is 1,000,000 and the metering charge
   pub power_at_the_limit_fit : price_and_fit generation (power_at 1000000) ≡ (1000000, true)
   pub power_above_the_limit_not_fit : price_and_fit generation (power_at 1000001) ≡ (1000001, false)

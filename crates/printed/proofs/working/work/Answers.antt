@@ -1,4 +1,5 @@
 use Rattle.std.proofs.Common.{Some, refl, inl}
+use Rattle.book.specs.Duties.{month_of}
 use Rattle.printed.specs.Frames.{given_by}
 use Rattle.printed.specs.Journals.{begun_by}
 use Rattle.printed.proofs.Filings.{entered_is_filed, entry_leaves_none, same_leaves_none}
@@ -12,10 +13,10 @@ pub returns-in-Err-clause-journaled : goal.returns-in-Err-clause-journaled
 returns-in-Err-clause-journaled c = rw (c.in-Opening.is) (same_carries _ _ c.in-Err.ensures.cases.same)
 
 pub returns-in-Ok-enter-clause-works : goal.returns-in-Ok-enter-clause-works
-returns-in-Ok-enter-clause-works c = rw (c.in-Entry.is) (inl (c.in-Ok-enter.month, c.in-Ok-enter.answer, refl, c.in-Ok-enter.ensures.cases))
+returns-in-Ok-enter-clause-works c = rw (c.in-Entry.is, c.month.ensures) (inl (month_of c.in-Ok-enter.duty, c.in-Ok-enter.answer, refl, c.in-Ok-enter.ensures.cases))
 
 pub returns-in-Ok-enter-clause-filed : goal.returns-in-Ok-enter-clause-filed
-returns-in-Ok-enter-clause-filed c = entered_is_filed c.in-Ok-enter.ensures.cases
+returns-in-Ok-enter-clause-filed c = rw (c.month.ensures) (entered_is_filed c.in-Ok-enter.ensures.cases)
 
 pub returns-in-Ok-enter-clause-none_pending : goal.returns-in-Ok-enter-clause-none_pending
 returns-in-Ok-enter-clause-none_pending c = entry_leaves_none c.in-Ok-enter.ensures.cases
