@@ -1,6 +1,5 @@
 -- A book owes what is kept beside it after an entry, an amendment, a filing, and its opening.
-use Rattle.std.proofs.Common.{◌≡◌, ℕ, zero, suc, ◌+◌, ◌<◌, ◌≤◌, Bool, true, false, ◌==◌, List, [], ◌∷◌, ◌++◌, map, length, Option, Some, None, Result, Ok, Err, IfOk, OnErr, MatchResult, refl, ap, sym, ◌∙◌, subst, arith}
-use Rattle.std.specs.Option.{option_map}
+use Rattle.std.proofs.Common.{◌≡◌, ℕ, zero, suc, ◌+◌, ◌<◌, ◌≤◌, true, ◌==◌, List, [], ◌∷◌, ◌++◌, length, Option, Some, None, Result, Ok, Err, IfOk, OnErr, MatchResult, refl, ap, sym, ◌∙◌, subst, arith}
 use Rattle.std.proofs.lemmas.Bool.{false≢true, and_parts, and_from, cond-true}
 use Rattle.std.proofs.lemmas.Bool.Decides.{nat_tests}
 use Rattle.std.proofs.lemmas.List.{length_push, length-map}
@@ -8,13 +7,13 @@ use Rattle.charges.specs.Meaning.{Meaning}
 use Rattle.fields.specs.Questions.{first_no}
 use Rattle.fields.proofs.Asked.{all_yes, some_none}
 use Rattle.month.specs.Figures.{Figures}
-use Rattle.settlement.specs.Answers.{Answered}
+use Rattle.settlement.specs.Settling.{Answered}
 use Rattle.settlement.specs.declared.record.Mark.{Mark}
 use Rattle.settlement.specs.declared.record.Mark.TheVariants.{Filed, Pending}
 use Rattle.settlement.specs.declared.record.Record.{Record}
 use Rattle.book.specs.Account.{Account, BookState}
 use Rattle.book.specs.Amending.{AmendmentKeeps, AmendmentKeepsBook}
-use Rattle.book.specs.Duties.{is_pending, pends, is_owed, duty_asked, marked, Spent, Returned}
+use Rattle.book.specs.Duties.{pends, is_owed, duty_asked, marked, Spent, Returned}
 use Rattle.book.specs.Entering.{answer_to, with_month, Entered}
 use Rattle.book.specs.Opening.{Given, opening_asked, Opens, NotOpened}
 use Rattle.book.specs.Places.{of_month}
@@ -24,7 +23,8 @@ use Rattle.book.specs.declared.duty.ReturnedDuty.{ReturnedDuty}
 use Rattle.book.specs.declared.fault.BookFault.{BookFault}
 use Rattle.book.specs.declared.kind.PostingKind.TheVariants.{Entry}
 use Rattle.book.proofs.Changed.{of_other_month, length_changed}
-use Rattle.book.proofs.OfMonth.{of_month_map, of_month_before}
+use Rattle.book.proofs.OfMonth.{of_month_before}
+use Rattle.book.proofs.Pending.{pends_amended}
 use Rattle.bookcases.specs.Kept.{Owing, Keeps}
 
 -- a pending month stands, and still pends where more months stand
@@ -145,28 +145,13 @@ keeps_last {before = Some a} {d = d} ds keeps returned =
     let owed = (owing_last a d Filed 0 ds keeps.owing).1 in
     some_none (sym returned.first ∙ cond-true _ _ _ owed)
 
--- what pends goes by the mark
-abbrev is_told_pending : Option Mark → Bool
-is_told_pending None = false
-is_told_pending (Some mark) = is_pending mark
-
-pends_by_mark : (r : Option Record) → pends r ≡ is_told_pending (option_map (λ r. r.mark) r)
-pends_by_mark None = refl
-pends_by_mark (Some r) = refl
-
-pends_marked : (rs : List Record) (n : ℕ) → pends (of_month rs n) ≡ is_told_pending (of_month (map (λ r. r.mark) rs) n)
-pends_marked rs n = pends_by_mark (of_month rs n) ∙ ap is_told_pending (sym (of_month_map (λ r. r.mark) rs n))
-
 -- an amendment leaves what is owed
 module _ (month : ℕ) (a b : Account) (keeps : AmendmentKeeps month a b) where
-  pends_amended : (n : ℕ) → pends (of_month b.records n) ≡ pends (of_month a.records n)
-  pends_amended n = pends_marked b.records n ∙ ap (λ marks. is_told_pending (of_month marks n)) keeps.marks ∙ sym (pends_marked a.records n)
-
   owed_amended : (d : Duty) → is_owed (Some a) d ≡ true → is_owed (Some b) d ≡ true
   owed_amended d owed =
       let parts = and_parts _ _ owed in
       let number = keeps.number in
-      and_from _ _ (rw (number) parts.0) (pends_amended d.month ∙ parts.1)
+      and_from _ _ (rw (number) parts.0) (pends_amended month a b keeps d.month ∙ parts.1)
 
   owing_amended : (n : ℕ) (ds : List Duty) → Owing (Some a) n ds → Owing (Some b) n ds
   owing_amended n [] o = tt

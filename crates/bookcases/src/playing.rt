@@ -1,5 +1,6 @@
 // One line of the table, and what it is answered.
 use crate::answers::{entry_of, month_of, refusal_of, state_of};
+use crate::charging::Row;
 use crate::docket::Docket;
 use crate::figures::statement_of;
 use crate::numbers::{integers_of, naturals_of};
@@ -96,10 +97,17 @@ fn offer(heap: Global, docket: &mut Docket, text: &str) -> anyhow::Result<String
     }
 }
 
-pub(crate) fn play_line(heap: Global, docket: &mut Docket, line: &str) -> anyhow::Result<String> {
+pub(crate) fn play_line(
+    heap: Global,
+    row: &mut Row,
+    docket: &mut Docket,
+    line: &str,
+) -> anyhow::Result<String> {
     let (word, text) = line.split_once(' ').unwrap_or((line, ""));
     match word {
         "#" => Ok(String::from_str(heap, line)?),
+        "cap" => row.begin(heap, text.parse::<u64>()?),
+        "charges" => row.add(heap, text),
         "new" => {
             docket.begin(heap)?;
             Ok(String::from_str(heap, line)?)

@@ -1,6 +1,5 @@
 -- A run leaves no more duties than pending months.
-use Rattle.std.proofs.Common.{◌≡◌, ℕ, zero, suc, ◌+◌, ◌≤◌, Bool, true, false, ◌==◌, ◌&&◌, if◌then◌else◌, List, [], ◌∷◌, ◌++◌, map, length, Option, Some, None, refl, ap, sym, ◌∙◌, subst, arith}
-use Rattle.std.specs.Option.{option_map}
+use Rattle.std.proofs.Common.{◌≡◌, ℕ, zero, suc, ◌+◌, ◌≤◌, true, ◌==◌, ◌&&◌, if◌then◌else◌, List, [], ◌∷◌, ◌++◌, length, Option, Some, None, refl, ap, sym, ◌∙◌, subst, arith}
 use Rattle.std.proofs.lemmas.Bool.{false≢true}
 use Rattle.std.proofs.lemmas.Bool.Decides.{nat_tests}
 use Rattle.std.proofs.lemmas.List.{length_push, length-map}
@@ -9,7 +8,7 @@ use Rattle.charges.specs.Meaning.{Meaning}
 use Rattle.fields.specs.Questions.{first_no}
 use Rattle.fields.proofs.Asked.{all_yes}
 use Rattle.month.specs.Figures.{Figures}
-use Rattle.settlement.specs.Answers.{answered}
+use Rattle.settlement.specs.Settling.{answered}
 use Rattle.settlement.specs.declared.record.Mark.{Mark}
 use Rattle.settlement.specs.declared.record.Mark.TheVariants.{Filed, Missed, Pending}
 use Rattle.settlement.specs.declared.record.Record.{Record}
@@ -25,7 +24,8 @@ use Rattle.book.specs.declared.kind.PostingKind.TheVariants.{Entry}
 use Rattle.book.proofs.Admits.{next_month}
 use Rattle.book.proofs.Amended.{amended_keeps}
 use Rattle.book.proofs.Changed.{length_changed}
-use Rattle.book.proofs.OfMonth.{of_month_map, of_month_before, of_month_added}
+use Rattle.book.proofs.OfMonth.{of_month_before, of_month_added}
+use Rattle.book.proofs.Pending.{pends_amended}
 use Rattle.client.specs.Acting.{Acted, EntryActed, AmendmentActed, DutyActed}
 use Rattle.client.specs.Runs.{Exchange, first_told, Played, Talk, Ends, Run}
 use Rattle.client.specs.declared.call.Call.{Call}
@@ -69,18 +69,6 @@ added_covers rs r number d is of_book of_month book month =
     let added = pends_added rs r is in
     grind (arith, nat_tests)
 
--- what pends goes by the mark
-abbrev is_told_pending : Option Mark → Bool
-is_told_pending None = false
-is_told_pending (Some mark) = is_pending mark
-
-pends_by_mark : (r : Option Record) → pends r ≡ is_told_pending (option_map (λ r. r.mark) r)
-pends_by_mark None = refl
-pends_by_mark (Some r) = refl
-
-pends_marked : (rs : List Record) (n : ℕ) → pends (of_month rs n) ≡ is_told_pending (of_month (map (λ r. r.mark) rs) n)
-pends_marked rs n = pends_by_mark (of_month rs n) ∙ ap is_told_pending (sym (of_month_map (λ r. r.mark) rs n))
-
 -- the record of a month that is entered
 abbrev entered_record : List Meaning → Account → Figures → Record
 entered_record row a m = let answer = answer_to row a m in record { closing = answer.closing; mark = Pending; standing = answer.standing }
@@ -111,12 +99,12 @@ kept_pending month (Some a) (Some b) keeps recorded =
       as_many ∙ recorded ∙ sym keeps.count,
       λ book m.
           let number = keeps.number in
-          let same = pends_marked b.records m ∙ ap (λ marks. is_told_pending (of_month marks m)) keeps.marks ∙ sym (pends_marked a.records m) in
+          let same = pends_amended _ a b keeps m in
           grind (arith, nat_tests),
     )
 
 amended_conserves : (row : List Meaning) (before after : Option Account) (file : List ℕ) (outcome : Outcome) → AmendmentActed row before file outcome after → Recorded before → Conserves [] outcome before after
-amended_conserves row before after file (Amended marks month answer) acted recorded =
+amended_conserves row before after file (Amended marks answer month) acted recorded =
     let kept = kept_pending month before after (amended_keeps row before after file (answered answer) month acted.1) recorded in
     record { recorded = kept.0; covers = λ book m. omega (arith, kept.1 book m) }
 amended_conserves row before after file (Refused fault) acted recorded =

@@ -1,4 +1,4 @@
-// The runs.
+// The cases: the client's seed, the openings of its two books, and how many calls it makes.
 use book::Opening;
 
 pub(crate) struct Case {

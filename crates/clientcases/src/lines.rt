@@ -1,4 +1,4 @@
-// What is printed.
+// The lines that are printed: of an outcome, of the end of a run, of a book.
 use crate::ending::Ending;
 use crate::told::Told;
 use book::{Answer, Book, BookFault, Mark, Marks};
@@ -39,7 +39,7 @@ pub(crate) fn told_line(heap: Global, told: &Told) -> anyhow::Result<String> {
             let answer = answer_of(heap, &answer)?;
             Ok(format!(in heap; "entered {month} [{letters}] {answer}")?)
         }
-        Told::Amended(marks, month, answer) => {
+        Told::Amended(marks, answer, month) => {
             let letters = letters_of(heap, &marks)?;
             let answer = answer_of(heap, &answer)?;
             Ok(format!(in heap; "amended {month} [{letters}] {answer}")?)

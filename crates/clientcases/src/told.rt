@@ -10,7 +10,7 @@ pub(crate) enum Told {
     Opened,
     // The marks before the call, and the number of the month.
     Entered(Marks, u16, Answer),
-    Amended(Marks, u16, Answer),
+    Amended(Marks, Answer, u16),
     Spent,
     Refused(BookFault),
     // The numbers of the duty's book and month.
@@ -25,7 +25,7 @@ pub(crate) fn parted(outcome: Outcome) -> (Told, Option<Duty>)
         Outcome::Entered(marks, answer, duty) => {
             (Told::Entered(marks, duty.month(), answer), Some(duty))
         }
-        Outcome::Amended(marks, month, answer) => (Told::Amended(marks, month, answer), None),
+        Outcome::Amended(marks, answer, month) => (Told::Amended(marks, answer, month), None),
         Outcome::Spent => (Told::Spent, None),
         Outcome::Refused(fault) => (Told::Refused(fault), None),
         Outcome::Returned(ReturnedDuty { fault, duty }) => (

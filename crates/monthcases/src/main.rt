@@ -2,20 +2,16 @@
 // A name that begins with `prefixes-` stands for every prefix of its file, printed in runs of one outcome.
 #![tactic(auto)]
 
-mod hex;
 mod outcome;
 mod prefixes;
-#[cfg(test)]
-mod tests;
 
-use crate::hex::decode;
 use crate::outcome::outcome_of;
 use crate::prefixes::print_prefixes;
 use anyhow::anyhow;
 use std::io::{BufRead, BufReader};
 
 fn print_case(rt: &HostRuntime, name: &str, digits: &str) -> anyhow::Result<()> {
-    let file = decode(rt.alloc(), digits)?;
+    let file = hex::decode(rt.alloc(), digits)?;
     if name.starts_with("prefixes-") {
         return print_prefixes(rt, name, file.as_slice());
     }

@@ -4,8 +4,6 @@
 
 mod lines;
 mod prefixes;
-#[cfg(test)]
-mod tests;
 
 use crate::lines::{lines_of, print_lines};
 use crate::prefixes::print_prefixes;

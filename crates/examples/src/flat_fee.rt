@@ -1,6 +1,6 @@
 // A mechanism of the tests' own: every kWh sold at one rate.
 ghost use Rattle.std.specs.Prelude.{◌≤◌};
-ghost use Rattle.chargecases.specs.FlatFees.{flat_fee, flat_fee_lawful, flat_fee_priced};
+ghost use Rattle.examples.specs.FlatFees.{flat_fee, flat_fee_lawful, flat_fee_priced};
 
 use charges::{Mechanism, Priced};
 use month::Month;

@@ -1,14 +1,8 @@
-// Worked examples.
-mod flat_fee;
-mod months;
-
-use crate::tests::flat_fee::FlatFee;
-use crate::tests::months::{SAMPLE, Sketch};
+// The four charges, schedules, and totals over the latest months.
+use crate::flat_fee::FlatFee;
+use crate::sketch::{SAMPLE, Sketch};
 use bounded::rolling_total;
-use charges::{
-    Assessment, CapTooHigh, Generation, Lifeline, Loss, Mechanism, Transmission, recent_allowances,
-    recent_energy,
-};
+use charges::{Assessment, CapTooHigh, Loss, Transmission, recent_allowances, recent_energy};
 use fields::{Layer, Refusal};
 use month::{Bracket, Energy, Month, Sales, Source};
 use schedule::{FourCharges, Joined, Schedule, Single};
@@ -67,20 +61,6 @@ fn sample_assessed(rt: HostRuntime) -> Result<(), Fail> {
 }
 
 #[test]
-fn sample_without_pilferage(rt: HostRuntime) -> Result<(), Fail> {
-    let charges = four(500)?;
-    let months = [Sketch {
-        pilferage: 0,
-        ..SAMPLE
-    }
-    .month()?];
-    check_answer(&rt, &charges, 0, &months, (108_000, 49_833, 5_382_000_000))?;
-    check_answer(&rt, &charges, 1, &months, (108_000, 10_000, 1_080_000_000))?;
-    check_answer(&rt, &charges, 2, &months, (108_000, 4_649, 502_094_602))?;
-    check_answer(&rt, &charges, 3, &months, (100_000, 3_300, 330_000_000))
-}
-
-#[test]
 fn no_month_stands(rt: HostRuntime) -> Result<(), Fail> {
     let charges = four(500)?;
     let months: [Month; 0] = [];
@@ -118,75 +98,6 @@ fn priced(generation: u64, transmission: u64) -> Sketch {
             metering: 0,
         },
     }
-}
-
-#[test]
-fn price_at_its_limit(rt: HostRuntime) -> Result<(), Fail> {
-    let generation = Generation::new();
-    let transmission = Transmission::new();
-    let loss = Loss::new(generation, transmission, 0)?;
-    // 10,000,000 centavos over 1,000 kWh are 1,000,000 units per kWh.
-    let both = priced(10_000_000, 10_000_000).month()?;
-    assert!(rt; generation.is_fit(&both));
-    assert!(rt; transmission.is_fit(&both));
-    assert!(rt; loss.is_fit(&both));
-    let no_generation = priced(10_000_010, 10_000_000).month()?;
-    assert!(rt; !generation.is_fit(&no_generation));
-    assert!(rt; transmission.is_fit(&no_generation));
-    assert!(rt; !loss.is_fit(&no_generation));
-    let no_transmission = priced(10_000_000, 10_000_010).month()?;
-    assert!(rt; generation.is_fit(&no_transmission));
-    assert!(rt; !transmission.is_fit(&no_transmission));
-    assert!(rt; !loss.is_fit(&no_transmission));
-    // 1,000,000.9 is rounded down.
-    assert!(rt; generation.is_fit(&priced(10_000_009, 0).month()?));
-    Ok(())
-}
-
-#[test]
-fn answers_for_a_month_that_is_not_fit(rt: HostRuntime) -> Result<(), Fail> {
-    let charges = four(500)?;
-    let month = priced(10_000_010, 10_000_000).month()?;
-    assert_eq!(rt; charges.assess(0, &[month]).0, 1_000_001);
-    assert_eq!(rt; charges.assess(0, &[month]).1, 900_000_900);
-    assert_eq!(rt; charges.quantity(2, &month), 900);
-    assert_eq!(rt; charges.assess(2, &[month]).0, 0);
-    assert_eq!(rt; charges.assess(2, &[month]).1, 0);
-    Ok(())
-}
-
-#[test]
-fn lifeline_at_its_limit(rt: HostRuntime) -> Result<(), Fail> {
-    // All of the bracket's 1,000,000 units, on one kWh; then two kWh at 1,000,001 units each.
-    let fit = Sketch {
-        bracket: Bracket {
-            kwh: 1,
-            customers: 0,
-            percent: 100,
-        },
-        sales: Sales {
-            nonlifeline: 1,
-            rate: 1_000_000,
-            metering: 0,
-        },
-        ..priced(1, 1)
-    };
-    assert!(rt; Lifeline.is_fit(&fit.month()?));
-    let unfit = Sketch {
-        bracket: Bracket {
-            kwh: 2,
-            customers: 2,
-            percent: 100,
-        },
-        sales: Sales {
-            nonlifeline: 2,
-            rate: 1_000_000,
-            metering: 1,
-        },
-        ..fit
-    };
-    assert!(rt; !Lifeline.is_fit(&unfit.month()?));
-    Ok(())
 }
 
 // Month k has 1,000 + k kWh of input, of which k and 2 k are lost.
@@ -289,21 +200,6 @@ fn answers_that_break_the_law(rt: HostRuntime) {
 }
 
 #[test]
-fn eight_mechanisms(rt: HostRuntime) -> Result<(), Fail> {
-    let eight = Joined {
-        first: four(500)?,
-        second: four(0)?,
-    };
-    let months = [SAMPLE.month()?];
-    assert_eq!(rt; eight.count(), 8);
-    check_answer(&rt, &eight, 2, &months, (108_000, 4_645, 501_742_155))?;
-    check_answer(&rt, &eight, 4, &months, (108_000, 49_791, 5_377_500_000))?;
-    // Without feeder losses U is 24,000,000 / 108,000, rounded down to 222.
-    check_answer(&rt, &eight, 6, &months, (108_000, 1_327, 143_354_901))?;
-    check_answer(&rt, &eight, 7, &months, (100_000, 3_300, 330_000_000))
-}
-
-#[test]
 fn nine_mechanisms(rt: HostRuntime) -> Result<(), Fail> {
     let nine = Joined {
         first: Single {
@@ -319,28 +215,6 @@ fn nine_mechanisms(rt: HostRuntime) -> Result<(), Fail> {
     check_answer(&rt, &nine, 0, &months, (108_000, 7, 756_000))?;
     check_answer(&rt, &nine, 3, &months, (108_000, 4_645, 501_742_155))?;
     check_answer(&rt, &nine, 7, &months, (108_000, 1_327, 143_354_901))
-}
-
-// The first has twelve, which it tells as nine.
-#[test]
-fn sixteen_mechanisms(rt: HostRuntime) -> Result<(), Fail> {
-    let sixteen = Joined {
-        first: Joined {
-            first: Joined {
-                first: four(500)?,
-                second: four(0)?,
-            },
-            second: four(0)?,
-        },
-        second: four(500)?,
-    };
-    let months = [SAMPLE.month()?];
-    assert_eq!(rt; sixteen.first.count(), 9);
-    assert_eq!(rt; sixteen.count(), 9);
-    check_answer(&rt, &sixteen, 0, &months, (108_000, 49_791, 5_377_500_000))?;
-    check_answer(&rt, &sixteen, 2, &months, (108_000, 4_645, 501_742_155))?;
-    check_answer(&rt, &sixteen, 6, &months, (108_000, 1_327, 143_354_901))?;
-    check_answer(&rt, &sixteen, 7, &months, (100_000, 3_300, 330_000_000))
 }
 
 #[test]

@@ -1,14 +1,10 @@
-// Worked examples of what the table does not show.
-mod books;
-
-use crate::tests::books::{SAMPLE, opened, post};
-use book::{
-    Answer, Book, BookFault, Closing, Duty, Mark, Opening, OpeningFault, ReturnedDuty, Standing,
-};
+// Books: what the table of books does not show.
+use crate::opened::{file, opened, post};
+use crate::sample::SAMPLE;
+use book::{Answer, Book, BookFault, Closing, Mark, Opening, OpeningFault, ReturnedDuty, Standing};
 use charges::{Generation, Lifeline};
 use fields::{Layer, Refusal, ShortBuffer};
-use schedule::{FourCharges, Joined, Schedule, Single};
-use std::process::Abort;
+use schedule::{FourCharges, Joined, Single};
 use std::test::Fail;
 
 #[test]
@@ -69,14 +65,6 @@ fn buffer_too_short(rt: HostRuntime) -> Result<(), Fail> {
     }
     assert!(rt; buffer.iter().all(|byte| *byte == 0xa5));
     Ok(())
-}
-
-// A duty has to be filed: it cannot be let go.
-fn file<S: Schedule>(rt: &impl Abort, book: &mut Book<S>, duty: Duty) {
-    match book.file(duty) {
-        Ok(()) => {}
-        Err(_returned) => panic!(rt; "not filed"),
-    }
 }
 
 // The month is pending in both books. The duty comes back, and its own book takes it.

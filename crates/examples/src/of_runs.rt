@@ -1,10 +1,10 @@
-// Worked examples of what the table does not show.
-mod frames;
-
-use crate::tests::frames::{ENTRY, OPENING};
+// Printed runs: what the table of runs does not show.
+use crate::frames::{ENTRY, OPENING};
+use crate::opened::file;
+use book::Mark;
 use bounded::UpTo;
 use fields::{Layer, Refusal, ShortBuffer};
-use printed::{Call, Frames, Line, NoFrame, closed_book, work, write_run};
+use printed::{Call, Frames, Line, NoFrame, Outcome, closed_book, work, write_run};
 use settlement::{Answer, Closing, Rate, Standing};
 use std::process::Abort;
 use std::test::Fail;
@@ -153,7 +153,7 @@ fn amendment() -> [u8; 170] {
     frame
 }
 
-// The lines of a caller that works frame by frame.
+// The lines of a caller that works frame by frame. A month is pending until the duty that comes with its line is filed.
 #[test]
 fn frame_by_frame(rt: HostRuntime) -> Result<(), Fail> {
     let stream = [OPENING.as_slice(), &ENTRY, &amendment()].concat(rt.alloc())?;
@@ -164,10 +164,18 @@ fn frame_by_frame(rt: HostRuntime) -> Result<(), Fail> {
         let Some(frame) = frames.read()? else {
             return Err(Fail::new("no frame"));
         };
+        let Outcome { line, duty } = work(&mut book, &frame);
+        if let Some(duty) = duty {
+            assert_eq!(rt; duty.book(), 7);
+            assert_eq!(rt; duty.month(), 1);
+            assert!(rt; book.mark(1) == Some(Mark::Pending));
+            file(&rt, &mut book, duty);
+        }
         let mut buffer = [0; 1024];
-        let length = work(&mut book, &frame).write(&mut buffer)?;
+        let length = line.write(&mut buffer)?;
         lines.extend_from_slice(&buffer[..length])?;
     }
+    assert!(rt; book.mark(1) == Some(Mark::Filed));
     let amended = format!(in rt.alloc();
         "{OPENED_AND_ENTERED}A 1 49833 10000 4649 3300 -99905398 7294094602 steady\n"
     )?;

@@ -1,18 +1,9 @@
-// Worked examples.
+// Month files and what lies under them: fields and short lists.
+use crate::sample::SAMPLE;
 use bounded::UpTo;
 use fields::{Due, Layer, Reader, Refusal, head, number, put};
 use monthfile::{read_month, write_month};
 use std::test::Fail;
-
-const SAMPLE: &[u8] = b"\
-    \x01\x00\x02\x00\x01\
-    \x02\x00\x18\x00\x00\x00\x00\x03\x93\x87\x00\x00\x00\x00\x00\x00\x06\x1a\x80\x00\x00\x00\x00\x00\x00\x00\x00\
-    \x03\x00\x08\x00\x00\x00\x00\x00\x00\xc3\x50\
-    \x04\x00\x18\x00\x00\x00\x00\x00\xb7\x1b\x00\x00\x00\x00\x00\x00\x00\x00\x00\x00\x00\x00\x00\x00\x00\x00\x00\
-    \x05\x00\x28\x00\x00\x00\x00\x00\x01\xd4\xc0\x00\x00\x00\x00\x00\x00\x09\x60\x00\x00\x00\x00\x00\x00\x25\x80\
-    \x00\x00\x00\x00\x00\x00\x00\x00\x00\x00\x00\x00\x00\x00\x00\x00\
-    \x06\x00\x18\x00\x00\x00\x00\x00\x00\x1f\x40\x00\x00\x00\x00\x00\x00\x01\x90\x00\x00\x00\x00\x00\x00\x00\x32\
-    \x07\x00\x18\x00\x00\x00\x00\x00\x01\x86\xa0\x00\x00\x00\x00\x00\x01\x38\x80\x00\x00\x00\x00\x00\x00\xc3\x50";
 
 fn refusal_of(file: &[u8]) -> Option<Refusal> {
     read_month(file).err().map(Refusal::from)
@@ -20,7 +11,7 @@ fn refusal_of(file: &[u8]) -> Option<Refusal> {
 
 #[test]
 fn sample_amounts(rt: HostRuntime) -> Result<(), Fail> {
-    let month = read_month(SAMPLE)?;
+    let month = read_month(&SAMPLE)?;
     assert_eq!(rt; month.statement().month, 1);
     assert_eq!(rt; month.generation_cost(), 5_975_000_000);
     assert_eq!(rt; month.transmission_cost(), 1_200_000_000);
@@ -41,18 +32,18 @@ fn empty_file(rt: HostRuntime) {
 
 #[test]
 fn written_back(rt: HostRuntime) -> Result<(), Fail> {
-    let month = read_month(SAMPLE)?;
+    let month = read_month(&SAMPLE)?;
     let mut buffer = [7; 1025];
     let n = write_month(&month, &mut buffer)?;
     assert_eq!(rt; n, 167);
-    assert!(rt; &buffer[0..167] == SAMPLE);
+    assert!(rt; &buffer[0..167] == SAMPLE.as_slice());
     assert!(rt; &buffer[167..] == &[7; 858][..]);
     Ok(())
 }
 
 #[test]
 fn short_buffer(rt: HostRuntime) -> Result<(), Fail> {
-    let month = read_month(SAMPLE)?;
+    let month = read_month(&SAMPLE)?;
     let mut buffer = [7; 1023];
     let Err(fault) = write_month(&month, &mut buffer) else {
         return Err(Fail::new("written"));
