@@ -38,7 +38,9 @@ fn settle_with<S: Schedule>(
     ensures { length months.now < 36 → length billed.now < 36 → MatchOption result
         (¬ EachSettleable (S.Schedule.meaning schedule.now) (length (opening_units opened.now.terms.balances))
         (map figures months.now ++ figures month ∷ []))
-        (λ a. answered a ≡ answer_to (S.Schedule.meaning schedule.now) (account_of opened.now months.now billed.now records.now) (figures month)) }
+        (λ a. EachSettleable (S.Schedule.meaning schedule.now) (length (opening_units opened.now.terms.balances))
+        (map figures months.now ++ figures month ∷ [])
+        × (answered a ≡ answer_to (S.Schedule.meaning schedule.now) (account_of opened.now months.now billed.now records.now) (figures month))) }
 {
     let months: UpTo<Month, MOST_MONTHS> = UpTo::of_slice_and(months, month)?;
     let billed: UpTo<Rates, MOST_MONTHS> = UpTo::of_slice_and(billed, opened.announced)?;

@@ -19,4 +19,4 @@ returns-clause-settled g c =
     let some = subst (λ x. SomeMonth x.account) (sym c.self.view_is) c.requires in
     let recorded = some_recorded row b.months.items b.billed.items b.records.items b.opened c.self.invariant.0 some in
     let long : length b.records.items ≡ (c.len-last.result - 1) + 1 = omega arith in
-    rw (← c.self.view_is, c.in-Some.is) (settled_by_write row b.months.items b.billed.items b.records.items c.in-Some.opened _ c.index.result.now c.of_month.result c.in-Some-settle.answer long c.index.ensures (rw (← c.as_slice-3.ensures.value) c.of_month.ensures) (rw (← c.as_slice.ensures.value, ← c.as_slice-2.ensures.value) c.in-Some-settle.ensures))
+    rw (← c.self.view_is, c.in-Some.is) (settled_by_write row b.months.items b.billed.items b.records.items c.in-Some.opened _ c.index.result.now c.of_month.result c.in-Some-settle.answer long c.index.ensures (rw (← c.as_slice-3.ensures.value) c.of_month.ensures) (rw (← c.as_slice.ensures.value, ← c.as_slice-2.ensures.value) c.in-Some-settle.ensures.1))
