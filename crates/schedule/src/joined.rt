@@ -28,7 +28,8 @@ impl<F: Schedule, S: Schedule> Joined<F, S> {
 impl<F: Schedule, S: Schedule> Schedule for Joined<F, S> {
     ghost meaning = { λ s. F.Schedule.meaning s.first ++ S.Schedule.meaning s.second };
 
-    ghost lawful = { λ s. All-append Lawful (F.Schedule.meaning s.first) (S.Schedule.meaning s.second) (F.Schedule.lawful s.first) (S.Schedule.lawful s.second) };
+    ghost lawful = { λ s. All-append Lawful (F.Schedule.meaning s.first) (S.Schedule.meaning s.second)
+        (F.Schedule.lawful s.first) (S.Schedule.lawful s.second) };
 
     fn count(&self) -> usize {
         (self.first.count() + self.second.count()).min(9)
