@@ -33,8 +33,7 @@ returns g c =
     let items = c.as_slice-opening-items in
     let all : c.loop-number.number ≡ length items.result.now = omega (arith, c.loop-number-test.false, c.loop-number.auto.number-end) in
     let balances = ap (map (λ o. o.units)) items.ensures.value in
-    let count : length (opening_units c.args.balances.now) ≡ c.loop-number.number = sym (ap length balances) ∙ length-map items.result.now (λ o. o.units) ∙ sym all in
-    (
+    let count : length (opening_units c.args.balances.now) ≡ c.loop-number.number = sym (ap length balances) ∙ length-map items.result.now (λ o. o.units) ∙ sym all in (
       record { count = search rules; each = λ i h. c.loop-number.invariant.lawful i (omega (arith, count)) },
       all_mechanisms (g.S.Schedule.meaning c.args.schedule.now) items.result.now _ (map figures c.args.months.now) (map units_of c.args.bills.now) c.loop-number.number _ balances all c.loop-number.invariant.so_far,
     )

@@ -32,5 +32,5 @@ returns g c =
     let whole = take_all c.loop-number.number items.result.now c.loop-number-test.false in
     let balances : map (λ b. b.units) (take c.loop-number.number items.result.now) ≡ opening_units c.args.balances.now = ap (map (λ b. b.units)) (whole ∙ items.ensures.value) in
     let taken : ArePositions row (opening_units c.args.balances.now) (map figures c.args.months.now) (map units_of c.args.bills.now) (held c.loop-number.taken) =
-        subst (λ (bs : List ℤ). ArePositions row bs (map figures c.args.months.now) (map units_of c.args.bills.now) (held c.loop-number.taken)) balances c.loop-number.invariant in
+    subst (λ (bs : List ℤ). ArePositions row bs (map figures c.args.months.now) (map units_of c.args.bills.now) (held c.loop-number.taken)) balances c.loop-number.invariant in
     (record { count = search rules; each = taken.settleable }, taken)
