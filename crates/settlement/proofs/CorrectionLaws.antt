@@ -141,8 +141,12 @@ module _ (mark : Option Mark) (spread : ℕ) (balance : ℤ) (quantity : ℕ) wh
       let size : nat_abs (given Correcting) ≡ nat_abs balance / d = ap nat_abs is ∙ spread_size d balance in
       rw size (omega (arith, lt-div-mul-add {a = nat_abs balance} {b = d} some))
 
--- the rate that the rules give keeps the laws
-module _ (a : Announcement) (some : 1 ≤ unit_spread a) (is : a.rate ≡ coming_rate a.base_rate a.standing (not_filed a.mark) a.spread a.outstanding a.quantity) where
+-- the rate that the rules give
+abbrev pub rate_by_rule : Announcement → ℤ
+rate_by_rule a = coming_rate a.base_rate a.standing (not_filed a.mark) a.spread a.outstanding a.quantity
+
+-- it keeps the laws
+module _ (a : Announcement) (some : 1 ≤ unit_spread a) (is : a.rate ≡ rate_by_rule a) where
   is_given : difference a ≡ given a.mark a.spread a.outstanding a.quantity a.standing
   is_given = omega (arith, ints, is)
 
@@ -193,7 +197,7 @@ one_rate a r laws rounded laws_too rounded_too = elim (steady_or_correcting a.st
 ]
 
 -- a rate is announced as the rules say exactly where it keeps both laws
-pub by_both_laws : (a : Announcement) → 1 ≤ unit_spread a → (a.rate ≡ coming_rate a.base_rate a.standing (not_filed a.mark) a.spread a.outstanding a.quantity) ↔ (Corrects a × Rounds a)
+pub by_both_laws : (a : Announcement) → 1 ≤ unit_spread a → (a.rate ≡ rate_by_rule a) ↔ (Corrects a × Rounds a)
 by_both_laws a some =
-    let r = coming_rate a.base_rate a.standing (not_filed a.mark) a.spread a.outstanding a.quantity in
+    let r = rate_by_rule a in
     (λ is. (corrects a some is, rounds a some is), λ laws. sym (one_rate a r laws.0 laws.1 (corrects (at_rate a r) some refl) (rounds (at_rate a r) some refl)))
