@@ -35,8 +35,8 @@ returns-clause-reconciled g c = amended_reconciled _ _ _ _ _ _ (returns-clause-c
 
 pub returns-clause-corrections : goal.returns-clause-corrections
 returns-clause-corrections g c =
-    rw (← c.replace.ensures.schedule) (amendment_announces Corrects corrects (g.S.Schedule.meaning c.replace.new.self.schedule) c.replace.new.self.account c.settle_now.new.self.account (answered c.settle_now.result) c.settle_now.ensures.settled c.settle_now.ensures.correctable)
+    rw (← c.replace.ensures.schedule) (amendment_announces Corrects corrects _ _ _ _ c.settle_now.ensures.settled c.settle_now.ensures.correctable)
 
 pub returns-clause-rounding : goal.returns-clause-rounding
 returns-clause-rounding g c =
-    rw (← c.replace.ensures.schedule) (amendment_announces Rounds rounds (g.S.Schedule.meaning c.replace.new.self.schedule) c.replace.new.self.account c.settle_now.new.self.account (answered c.settle_now.result) c.settle_now.ensures.settled c.settle_now.ensures.correctable)
+    rw (← c.replace.ensures.schedule) (amendment_announces Rounds rounds _ _ _ _ c.settle_now.ensures.settled c.settle_now.ensures.correctable)

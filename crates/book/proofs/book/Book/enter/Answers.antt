@@ -19,9 +19,7 @@ returns-clause-reconciled g c =
     accepted_reconciled (g.S.Schedule.meaning c.args.self.now.schedule) c.args.file.now c.in_ok-month.month c.args.self.now.account c.add-duty.new.self.account (answered c.answer_to-settled.result) c.add-duty.result c.in_ok-month.ensures.0 c.in_ok-month.ensures.1 c.answer_to-settled.ensures c.add-duty.ensures.added
 
 pub returns-clause-corrections : goal.returns-clause-corrections
-returns-clause-corrections g c =
-    entry_announces Corrects corrects (g.S.Schedule.meaning c.args.self.now.schedule) c.args.self.now.account c.add-duty.new.self.account _ (answered c.answer_to-settled.result) c.add-duty.result c.answer_to-settled.ensures c.add-duty.ensures.added c.add-duty.ensures.correctable
+returns-clause-corrections g c = entry_announces Corrects corrects _ _ _ _ _ _ c.answer_to-settled.ensures c.add-duty.ensures.added c.add-duty.ensures.correctable
 
 pub returns-clause-rounding : goal.returns-clause-rounding
-returns-clause-rounding g c =
-    entry_announces Rounds rounds (g.S.Schedule.meaning c.args.self.now.schedule) c.args.self.now.account c.add-duty.new.self.account _ (answered c.answer_to-settled.result) c.add-duty.result c.answer_to-settled.ensures c.add-duty.ensures.added c.add-duty.ensures.correctable
+returns-clause-rounding g c = entry_announces Rounds rounds _ _ _ _ _ _ c.answer_to-settled.ensures c.add-duty.ensures.added c.add-duty.ensures.correctable
