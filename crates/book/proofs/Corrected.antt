@@ -11,7 +11,7 @@ use Rattle.month.specs.Figures.{Figures}
 use Rattle.month.specs.View.{figures}
 use Rattle.month.specs.declared.month.Month.{Month}
 use Rattle.schedule.specs.Rows.{numbered}
-use Rattle.settlement.specs.CorrectionLaws.{Announcement, unit_spread}
+use Rattle.settlement.specs.CorrectionLaws.{Announcement, unit_comes_to}
 use Rattle.settlement.specs.Corrections.{not_filed, is_barred}
 use Rattle.settlement.specs.Months.{quantity_at}
 use Rattle.settlement.specs.Numbers.{by_number}
@@ -74,7 +74,7 @@ rates_settled row a some =
 
 -- a law of an announcement by the rules
 abbrev ByRules : (Announcement → Type 0) → Type 0
-ByRules law = (a : Announcement) → 1 ≤ unit_spread a → a.rate ≡ rate_by_rule a → law a
+ByRules law = (a : Announcement) → 1 ≤ unit_comes_to a → a.rate ≡ rate_by_rule a → law a
 
 module _ (row : List Meaning) (a : Account) (law : Announcement → Type 0) (by_rules : ByRules law) (rates : RatesNow row a) (known : Correctable row a) where
   -- what is announced of mechanism i
@@ -100,7 +100,7 @@ module _ (row : List Meaning) (a : Account) (law : Announcement → Type 0) (by_
     quantity = refl;
   }
 
-  some_unit : (i : ℕ) → i < length row → 1 ≤ unit_spread (announcement i)
+  some_unit : (i : ℕ) → i < length row → 1 ≤ unit_comes_to (announcement i)
   some_unit i inside =
       let last = (known.lawful i inside).lawful (length a.months - 1) (omega (arith, known.some)) in
       omega (arith, mul-le 1 1 a.spread (quantity_at (numbered row i) a.months (length a.months - 1)) known.spread last.least)

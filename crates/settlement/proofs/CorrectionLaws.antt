@@ -3,7 +3,7 @@ use Rattle.std.proofs.Common.{◌≡◌, ◌↔◌, ℕ, zero, suc, ◌+◌, ◌
 use Rattle.std.proofs.Math.Nat.{lt-div-mul-add, div-le_self, mul-le-mul_right}
 use Rattle.std.proofs.lemmas.Bool.{cases_lt}
 use Rattle.std.proofs.lemmas.Int.{ints, clamps}
-use Rattle.settlement.specs.CorrectionLaws.{Announcement, difference, unit_spread, Unbarred, Corrects, Rounds}
+use Rattle.settlement.specs.CorrectionLaws.{Announcement, difference, unit_comes_to, Unbarred, Corrects, Rounds}
 use Rattle.settlement.specs.Corrections.{not_filed, spread_over, cut, unless_barred, correction, coming_rate}
 use Rattle.settlement.specs.declared.record.Mark.{Mark}
 use Rattle.settlement.specs.declared.record.Mark.TheVariants.{Pending, Filed, Missed}
@@ -133,8 +133,8 @@ module _ (mark : Option Mark) (spread : ℕ) (balance : ℤ) (quantity : ℕ) wh
       let small : nat_abs (given Correcting) ≤ nat_abs balance / d = omega (arith, barred_size (cut quotient) (not_filed mark), cut_size quotient, spread_size d balance) in
       omega (arith, mul-le-mul_right {m = nat_abs (given Correcting)} {n = nat_abs balance / d} d small, div-mul-le_self (nat_abs balance) d)
 
-  given_whole : 1 ≤ spread * quantity → (pos 0 <ℤ balance → Unbarred mark) → nat_abs (given Correcting) < 1000000 → nat_abs balance < (nat_abs (given Correcting) + 1) * (spread * quantity)
-  given_whole some free few =
+  given_tight : 1 ≤ spread * quantity → (pos 0 <ℤ balance → Unbarred mark) → nat_abs (given Correcting) < 1000000 → nat_abs balance < (nat_abs (given Correcting) + 1) * (spread * quantity)
+  given_tight some free few =
       let d = spread * quantity in
       let all : given Correcting ≡ cut quotient = not_barred (cut quotient) (not_filed mark) (λ up. bars_none mark (free (spread_upward d balance (cut_upward quotient up)))) in
       let is : given Correcting ≡ quotient = all ∙ uncut quotient (rw (← all) few) in
@@ -146,7 +146,7 @@ abbrev pub rate_by_rule : Announcement → ℤ
 rate_by_rule a = coming_rate a.base_rate a.standing (not_filed a.mark) a.spread a.outstanding a.quantity
 
 -- it keeps the laws
-module _ (a : Announcement) (some : 1 ≤ unit_spread a) (is : a.rate ≡ rate_by_rule a) where
+module _ (a : Announcement) (some : 1 ≤ unit_comes_to a) (is : a.rate ≡ rate_by_rule a) where
   is_given : difference a ≡ given a.mark a.spread a.outstanding a.quantity a.standing
   is_given = omega (arith, ints, is)
 
@@ -161,9 +161,9 @@ module _ (a : Announcement) (some : 1 ≤ unit_spread a) (is : a.rate ≡ rate_b
   pub rounds : Rounds a
   rounds = record {
     covered = rw is_given (given_covered a.mark a.spread a.outstanding a.quantity a.standing);
-    whole = λ correcting free few.
+    tight = λ correcting free few.
         let now : difference a ≡ given a.mark a.spread a.outstanding a.quantity Correcting = is_given ∙ ap (given a.mark a.spread a.outstanding a.quantity) correcting in
-        rw now (given_whole a.mark a.spread a.outstanding a.quantity some free (rw (← now) few));
+        rw now (given_tight a.mark a.spread a.outstanding a.quantity some free (rw (← now) few));
   }
 
 -- the same with this rate
@@ -173,7 +173,7 @@ at_rate a r = record a { rate = r }
 -- of two rates that keep the laws neither is corrected by less
 not_less : (a : Announcement) (r : ℤ) → Corrects (at_rate a r) → Rounds a → Rounds (at_rate a r) → a.standing ≡ Correcting → (pos 0 <ℤ a.outstanding → Unbarred a.mark) → nat_abs (difference (at_rate a r)) ≤ nat_abs (difference a)
 not_less a r laws rounded other correcting free = elim (cases_lt (nat_abs (difference a)) (nat_abs (difference (at_rate a r)))) [
-  | inl less ↦ absurd (omega (arith, rounded.whole correcting free (omega (arith, less, laws.limit)), other.covered, mul-le-mul_right {m = nat_abs (difference a) + 1} {n = nat_abs (difference (at_rate a r))} (unit_spread a) (omega arith)))
+  | inl less ↦ absurd (omega (arith, rounded.tight correcting free (omega (arith, less, laws.limit)), other.covered, mul-le-mul_right {m = nat_abs (difference a) + 1} {n = nat_abs (difference (at_rate a r))} (unit_comes_to a) (omega arith)))
   | inr more ↦ more
 ]
 
@@ -197,7 +197,7 @@ one_rate a r laws rounded laws_too rounded_too = elim (steady_or_correcting a.st
 ]
 
 -- a rate is announced as the rules say exactly where it keeps both laws
-pub by_both_laws : (a : Announcement) → 1 ≤ unit_spread a → (a.rate ≡ rate_by_rule a) ↔ (Corrects a × Rounds a)
+pub by_both_laws : (a : Announcement) → 1 ≤ unit_comes_to a → (a.rate ≡ rate_by_rule a) ↔ (Corrects a × Rounds a)
 by_both_laws a some =
     let r = rate_by_rule a in
     (λ is. (corrects a some is, rounds a some is), λ laws. sym (one_rate a r laws.0 laws.1 (corrects (at_rate a r) some refl) (rounds (at_rate a r) some refl)))

@@ -22,8 +22,8 @@ abbrev pub difference : Announcement → ℤ
 difference a = a.rate -ℤ pos a.base_rate
 
 -- what one unit of it comes to, over the months that it is spread over
-abbrev pub unit_spread : Announcement → ℕ
-unit_spread a = a.spread * a.quantity
+abbrev pub unit_comes_to : Announcement → ℕ
+unit_comes_to a = a.spread * a.quantity
 
 -- the month before the last bars no upward correction: none stands, or it is marked filed (Article 5, Section 1)
 abbrev pub Unbarred : Option Mark → Type 0
@@ -40,6 +40,6 @@ pub record Corrects (a : Announcement) : Type 0 where
 -- how it is rounded: it comes to no more than is outstanding; and while the book is correcting, one unit more would come to more, unless the
 -- correction is at its limit, or an upward one is barred
 pub record Rounds (a : Announcement) : Type 0 where
-  pub covered : nat_abs (difference a) * unit_spread a ≤ nat_abs a.outstanding
-  pub whole : a.standing ≡ Correcting → (pos 0 <ℤ a.outstanding → Unbarred a.mark) → nat_abs (difference a) < 1000000
-      → nat_abs a.outstanding < (nat_abs (difference a) + 1) * unit_spread a
+  pub covered : nat_abs (difference a) * unit_comes_to a ≤ nat_abs a.outstanding
+  pub tight : a.standing ≡ Correcting → (pos 0 <ℤ a.outstanding → Unbarred a.mark) → nat_abs (difference a) < 1000000
+      → nat_abs a.outstanding < (nat_abs (difference a) + 1) * unit_comes_to a
