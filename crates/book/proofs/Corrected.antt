@@ -12,7 +12,7 @@ use Rattle.month.specs.View.{figures}
 use Rattle.month.specs.declared.month.Month.{Month}
 use Rattle.schedule.specs.Rows.{numbered}
 use Rattle.settlement.specs.CorrectionLaws.{Announcement, unit_comes_to}
-use Rattle.settlement.specs.Corrections.{not_filed, is_barred}
+use Rattle.settlement.specs.Corrections.{is_barred}
 use Rattle.settlement.specs.Months.{quantity_at}
 use Rattle.settlement.specs.Numbers.{by_number}
 use Rattle.settlement.specs.Rules.{outstanding}
@@ -25,9 +25,8 @@ use Rattle.settlement.proofs.CorrectionLaws.{rate_by_rule}
 use Rattle.book.specs.Account.{Account, account_of, held_by, standing_of}
 use Rattle.book.specs.Amending.{record_before_last, SettlesNow, SomeMonth, settled_now, answer_now, closed_by}
 use Rattle.book.specs.Corrected.{Announces, EachAnnounced, Correctable, BookCorrectable}
-use Rattle.book.specs.Duties.{duty_asked}
 use Rattle.book.specs.Entering.{AnswersTo, Adds, added, with_month, answer_to}
-use Rattle.book.specs.Places.{of_month, changed_month}
+use Rattle.book.specs.Places.{of_month}
 use Rattle.book.specs.Reading.{mark_told}
 use Rattle.book.specs.Sound.{Sound}
 use Rattle.book.specs.declared.duty.Duty.{Duty}
