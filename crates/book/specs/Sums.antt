@@ -1,21 +1,8 @@
 -- The sums over the standing months of a tally, and the rates by it. Mechanisms are meant by their
 -- number in the row, which counts from 0. Months count from 1; the rules of settling count them from 0,
 -- so that they are asked for month − 1.
-use Rattle.std.specs.Prelude.{
-  ℕ,
-  suc,
-  ◌-◌,
-  Bool,
-  List,
-  length,
-  take,
-  ℤ,
-  pos,
-  ◌+ℤ◌,
-  ◌-ℤ◌,
-  ◌*ℤ◌,
-  slice_index_or,
-}
+use Rattle.std.specs.Prelude.{ℕ, suc, ◌-◌, Bool, List, length, take, ℤ, pos, ◌+ℤ◌, ◌-ℤ◌, ◌*ℤ◌}
+use Rattle.std.specs.Prelude.{slice_index_or}
 use Rattle.charges.specs.Meaning.{Meaning}
 use Rattle.schedule.specs.Rows.{numbered}
 use Rattle.settlement.specs.Corrections.{coming_rate}
