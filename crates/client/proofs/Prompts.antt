@@ -12,8 +12,9 @@ use Rattle.book.specs.Reading.{NonePending}
 use Rattle.book.specs.declared.duty.Duty.{Duty}
 use Rattle.book.proofs.Pending.{NoneOf, none_once_marked, owed, owed_pends}
 use Rattle.client.specs.Acting.{Acted, EntryActed, DutyActed}
-use Rattle.client.specs.Prompts.{Prompted, SendsNext}
+use Rattle.client.specs.Prompts.{GoesOn, Prompted, SendsNext}
 use Rattle.client.specs.Runs.{Exchange, first_told, Played, Talk, Run}
+use Rattle.client.specs.Telling.{Told, telling}
 use Rattle.client.specs.declared.call.Call.{Call}
 use Rattle.client.specs.declared.call.Call.TheVariants.{Enter, File, GiveUp}
 use Rattle.client.specs.declared.outcome.Outcome.{Outcome}
@@ -47,6 +48,10 @@ Leaves (Entered marks answer duty) account = ClearButLast account
 Leaves (Returned returned) account = ClearButLast account
 Leaves outcome account = NonePending account
 
+-- the same of what the client is told
+abbrev LeftBy : Told → Type 0
+LeftBy told = Leaves told.outcome told.account
+
 spending_clears : (mark : Mark) (before after : Option Account) (duty : Duty) → is_pending mark ≡ false → DutySpent before after duty mark → ClearButLast before → NonePending after
 spending_clears mark None after duty settles spent alone = absurd alone
 spending_clears mark (Some a) after duty settles spent alone =
@@ -69,7 +74,7 @@ next_leaves row client next (Enter file) before after outcome sends acted clear 
 next_leaves row client next call before after outcome sends acted clear = absurd sends
 
 -- one call, by what came before it
-call_leaves : (row : List Meaning) (client next : Prompt) (told : Outcome) (call : Call) (before after : Option Account) (outcome : Outcome) → Prompted client told next (Some call) → Acted row before call outcome after → Leaves told before → Leaves outcome after
+call_leaves : (row : List Meaning) (client next : Prompt) (told : Outcome) (call : Call) (before after : Option Account) (outcome : Outcome) → GoesOn client told next (Some call) → Acted row before call outcome after → Leaves told before → Leaves outcome after
 call_leaves row client next (Entered marks answer duty) call before after outcome prompted acted alone =
     let chosen : call ≡ File duty = let is = prompted.1 in cc in
     duty_leaves Filed before after duty outcome refl (subst (λ (c : Call). Acted row before c outcome after) chosen acted) alone
@@ -79,13 +84,14 @@ call_leaves row client next (Returned returned) call before after outcome prompt
 call_leaves row client next told call before after outcome prompted acted clear = next_leaves row client next call before after outcome prompted acted clear
 
 -- both sides of the transcript, call after call
-calls_leave : (row : List Meaning) (client last : Prompt) (before after : Option Account) (es : List Exchange) (final : Outcome) → Talk Prompted client es last → Played row before es final after → Leaves (first_told es final) before → Leaves final after
-calls_leave row client last before after [] final talk same left = subst (Leaves final) (sym same) left
-calls_leave row client last before after (e ∷ es) final talk played left =
-    calls_leave row talk.0 last played.0 after es final talk.2 played.2 (call_leaves row client talk.0 e.told e.call before played.0 (first_told es final) talk.1 played.1 left)
+calls_leave : (row : List Meaning) (client last : Prompt) (es : List Exchange) (final : Told) → Talk Prompted row client es last → Played row es final → LeftBy (first_told es final) → LeftBy final
+calls_leave row client last [] final talk played left = left
+calls_leave row client last (e ∷ es) final talk played left =
+    let next = first_told es final in
+    calls_leave row talk.0 last es final talk.2 played.1 (call_leaves row client talk.0 e.told.outcome e.call e.told.account next.account next.outcome talk.1 played.0 left)
 
 -- where it ends the run it was handed no duty, and has no file
-ends_clear : (client last : Prompt) (final : Outcome) (after : Option Account) → Prompted client final last None → Leaves final after → NonePending after × (last.files.items ≡ [])
+ends_clear : (client last : Prompt) (final : Outcome) (after : Option Account) → GoesOn client final last None → Leaves final after → NonePending after × (last.files.items ≡ [])
 ends_clear client last (Entered marks answer duty) after prompted alone = absurd (let is = prompted.1 in cc)
 ends_clear client last (Returned returned) after prompted alone = absurd (let is = prompted.1 in cc)
 ends_clear client last final after prompted clear = (clear, prompted.1)
@@ -93,5 +99,6 @@ ends_clear client last final after prompted clear = (clear, prompted.1)
 -- so its run leaves no month pending, once it ends the run
 pub run_clears : {row : List Meaning} {g : Given} {most : ℕ} {first last : Prompt} {before after : Option Account} → Run Prompted row g most first last None before after → NonePending after × (last.files.items ≡ [])
 run_clears {row} {g} {most} {first} {last} {before} {after} ran =
-    let at_first : Leaves (first_told ran.exchanges ran.final) (Some (newly_opened g)) = subst (λ (o : Outcome). Leaves o (Some (newly_opened g))) (sym ran.begins) (none_newly_opened g) in
-    ends_clear ran.client last ran.final after ran.ends.0 (calls_leave row first ran.client (Some (newly_opened g)) after ran.exchanges ran.final ran.talk ran.played at_first)
+    let at_first : LeftBy (first_told ran.exchanges ran.final) = subst LeftBy (sym ran.begins) (none_newly_opened g) in
+    let at_last = calls_leave row first ran.client ran.exchanges ran.final ran.talk ran.played at_first in
+    ends_clear ran.client last ran.final.outcome after ran.ends.0 (subst (Leaves ran.final.outcome) (sym ran.leaves) at_last)

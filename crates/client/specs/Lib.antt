@@ -1,3 +1,4 @@
 pub mod Acting
 pub mod Prompts
 pub mod Runs
+pub mod Telling
