@@ -1,4 +1,5 @@
 pub mod Acting
+pub mod Handing
 pub mod Prompts
 pub mod Runs
 pub mod Telling
