@@ -5,6 +5,7 @@ mod cases;
 mod ending;
 mod erratic;
 mod files;
+mod keeper;
 mod lines;
 mod plan;
 mod told;
@@ -22,8 +23,10 @@ fn play(rt: &HostRuntime, case: &Case) -> anyhow::Result<()> {
     let mut second = Book::new(heap, FourCharges::new(case.cap)?)?;
     let mut client = Erratic::new(heap, case.seed, case.calls);
     // The second book is sent duties of the first. No error is passed on until all are gone.
-    let first_ended = run_through(case, case.first, &mut first, &mut second, &mut client);
-    let second_ended = run_through(case, case.second, &mut second, &mut first, &mut client);
+    let opening = case.opening(case.first);
+    let first_ended = run_through(&opening, case.most, &mut first, &mut second, &mut client);
+    let opening = case.opening(case.second);
+    let second_ended = run_through(&opening, case.most, &mut second, &mut first, &mut client);
     let told = client.close(&mut second, &mut first)?;
     println!(rt; "run {}", case.name)?;
     for told in told.as_slice() {
