@@ -1,1 +1,3 @@
 pub mod Covering
+pub mod Keeping
+pub mod Sparing

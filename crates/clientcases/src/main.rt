@@ -1,4 +1,5 @@
-// Runs clients that pick their calls by chance, each on two books, one after the other, and prints what they are told.
+// Runs clients that pick their calls by chance, each on two books, one after the other, and prints what they are told. Then runs one that chooses by
+// what is outstanding, which prints nothing.
 #![tactic(auto)]
 
 mod cases;
@@ -8,12 +9,15 @@ mod files;
 mod keeper;
 mod lines;
 mod plan;
+mod sparing;
 mod told;
+mod unprinted;
 
 use crate::cases::{CASES, Case};
 use crate::ending::run_through;
 use crate::erratic::Erratic;
 use crate::lines::{book_line, ending_line, told_line};
+use crate::unprinted::play_unprinted;
 use book::Book;
 use schedule::FourCharges;
 
@@ -45,5 +49,5 @@ fn main(rt: HostRuntime) -> anyhow::Result<()> {
     for case in &CASES {
         play(&rt, case)?;
     }
-    Ok(())
+    play_unprinted(rt.alloc())
 }
