@@ -18,7 +18,7 @@ use Rattle.book.proofs.Pending.{NoneOf, none_once_marked, owed, owed_pends}
 use Rattle.client.specs.Acting.{Acted, EntryActed, AmendmentActed, DutyActed}
 use Rattle.client.specs.Handing.{handed, sent}
 use Rattle.client.specs.Runs.{Exchange, first_told, Played, Talk, Run}
-use Rattle.client.specs.Telling.{Told, telling}
+use Rattle.client.specs.Telling.{Told}
 use Rattle.client.specs.declared.call.Call.{Call}
 use Rattle.client.specs.declared.call.Call.TheVariants.{Enter, Amend, File, GiveUp}
 use Rattle.client.specs.declared.outcome.Outcome.{Outcome}

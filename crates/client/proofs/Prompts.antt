@@ -1,5 +1,5 @@
 -- A prompt client leaves no filing pending, and no file.
-use Rattle.std.proofs.Common.{◌≡◌, ℕ, List, [], Option, Some, None}
+use Rattle.std.proofs.Common.{◌≡◌, ℕ, List, [], Option, None}
 use Rattle.charges.specs.Meaning.{Meaning}
 use Rattle.book.specs.Account.{Account}
 use Rattle.book.specs.Opening.{Given}

@@ -1,5 +1,5 @@
 -- What a sparing client does.
-use Rattle.std.specs.Prelude.{◌≡◌, ℕ, if◌then◌else◌, List, ℤ, pos, int_le, Option, Some, None}
+use Rattle.std.specs.Prelude.{◌≡◌, if◌then◌else◌, List, ℤ, pos, int_le, Option, Some}
 use Rattle.std.specs.Option.{option_map}
 use Rattle.charges.specs.Meaning.{Meaning}
 use Rattle.book.specs.Reading.{outstanding_told}

@@ -14,5 +14,6 @@ pub(crate) trait Keeper: Client<FourCharges> {
     // The duties that it keeps from one call to the next.
     ghost keeps: { Self → List Duty };
 
-    ghost makes_none: { (before : Self) (row : List Meaning) (told : Told) (after : Self) (call : Option Call) → Self.answers before row told after call → MakesNone (keeps before) told.outcome (keeps after) call };
+    ghost makes_none: { (before : Self) (row : List Meaning) (told : Told) (after : Self) (call : Option Call) → Self.answers before row told after call
+        → MakesNone (keeps before) told.outcome (keeps after) call };
 }
