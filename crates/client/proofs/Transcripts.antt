@@ -8,7 +8,7 @@ use Rattle.book.specs.Opening.{OpeningNumbers, Given, opening_asked, numbers_of,
 use Rattle.book.specs.Reconciled.{BookReconciled}
 use Rattle.book.specs.Tally.{Posting}
 use Rattle.client.specs.Acting.{Acted, Noted}
-use Rattle.client.specs.Runs.{Exchange, first_told, Leads, Played, NotedAll, Talk, Ends, Run}
+use Rattle.client.specs.Runs.{Exchange, first_told, Leads, Played, Journal, Talk, Ends, Run}
 use Rattle.client.specs.Telling.{Told, telling}
 use Rattle.client.specs.declared.call.Call.{Call}
 use Rattle.client.specs.declared.outcome.Outcome.{Outcome}
@@ -25,10 +25,12 @@ played_more row [] e final played leads = (leads, tt)
 played_more row (x ∷ xs) e final played leads =
     (subst (λ (t : Told). Leads row x.told x.call t) (sym (first_told_more xs e final)) played.0, played_more row xs e final played.1 leads)
 
-journal_more : (before between after : List Posting) (es : List Exchange) (e : Exchange) (final : Told) → NotedAll before es e.told between → Noted e.call final.outcome between after → NotedAll before (es ++ e ∷ []) final after
-journal_more before between after [] e final same noted = (after, subst (λ (ps : List Posting). Noted e.call final.outcome ps after) same noted, refl)
-journal_more before between after (x ∷ xs) e final journal noted =
-    (journal.0, subst (λ (t : Told). Noted x.call t.outcome before journal.0) (sym (first_told_more xs e final)) journal.1, journal_more journal.0 between after xs e final journal.2 noted)
+journal_more : (row : List Meaning) (o : OpeningNumbers) (before between after : List Posting) (es : List Exchange) (e : Exchange) (final : Told)
+    → Journal row o before es e.told between → Facts row o between (read_of row e.told.account) → Noted e.call final.outcome between after → Journal row o before (es ++ e ∷ []) final after
+journal_more row o before between after [] e final same facts noted =
+    (subst (λ (ps : List Posting). Facts row o ps (read_of row e.told.account)) same facts, after, subst (λ (ps : List Posting). Noted e.call final.outcome ps after) same noted, refl)
+journal_more row o before between after (x ∷ xs) e final journal facts noted =
+    (journal.0, journal.1, subst (λ (t : Told). Noted x.call t.outcome before journal.1) (sym (first_told_more xs e final)) journal.2, journal_more row o journal.1 between after xs e final journal.3 facts noted)
 
 module _ {C : Type 0} (answers : C → List Meaning → Told → C → Option Call → Type 0) (row : List Meaning) where
   talk_more : (first between last : C) (es : List Exchange) (e : Exchange) → Talk answers row first es between → answers between row e.told last (Some e.call) → Talk answers row first (es ++ e ∷ []) last
@@ -43,7 +45,7 @@ module _ {C : Type 0} (answers : C → List Meaning → Told → C → Option Ca
     pub talk : Talk answers row first exchanges client
     pub played : Played row exchanges (telling outcome account)
     pub postings : List Posting
-    pub journal : NotedAll [] exchanges (telling outcome account) postings
+    pub journal : Journal row (numbers_of g) [] exchanges (telling outcome account) postings
     pub reconciled : BookReconciled row (numbers_of g) postings account
 
   -- none was made yet
@@ -60,10 +62,14 @@ module _ {C : Type 0} (answers : C → List Meaning → Told → C → Option Ca
   }
 
   module _ {g : Given} {first : C} {made : ℕ} {client : C} {outcome : Outcome} {account : Option Account} (so_far : SoFar g first made client outcome account) where
+    -- the facts hold of it
+    abbrev Audited : Type 0
+    Audited = (o : OpeningNumbers) (ps : List Posting) → BookReconciled row o ps account → Facts row o ps (read_of row account)
+
     -- one is made more
-    pub one_made : {next : C} {call : Call} {came_to : Outcome} {after : Option Account} → answers client row (telling outcome account) next (Some call) → Acted row account call came_to after
+    pub one_made : {next : C} {call : Call} {came_to : Outcome} {after : Option Account} → answers client row (telling outcome account) next (Some call) → Acted row account call came_to after → Audited
         → ((o : OpeningNumbers) (before later : List Posting) → BookReconciled row o before account → Noted call came_to before later → BookReconciled row o later after) → SoFar g first (made + 1) next came_to after
-    one_made {next} {call} {came_to} {after} answer acted reconciled =
+    one_made {next} {call} {came_to} {after} answer acted audited reconciled =
         let e : Exchange = record { told = telling outcome account; call = call } in
         let now = telling came_to after in
         let later = noted row account after call came_to acted so_far.postings in
@@ -74,13 +80,12 @@ module _ {C : Type 0} (answers : C → List Meaning → Told → C → Option Ca
           talk = talk_more first client next so_far.exchanges e so_far.talk answer;
           played = played_more row so_far.exchanges e now so_far.played acted;
           postings = later.0;
-          journal = journal_more [] so_far.postings later.0 so_far.exchanges e now so_far.journal later.1;
+          journal = journal_more row (numbers_of g) [] so_far.postings later.0 so_far.exchanges e now so_far.journal (audited (numbers_of g) so_far.postings so_far.reconciled) later.1;
           reconciled = reconciled (numbers_of g) so_far.postings later.0 so_far.reconciled later.1;
         }
 
     -- the run ends here
-    pub ended : {most : ℕ} {last : C} {untold : Option Outcome} {before : Option Account} → first_no (opening_asked (length row) before g) ≡ None → Ends answers row client (telling outcome account) last made most untold
-        → ((o : OpeningNumbers) (ps : List Posting) → BookReconciled row o ps account → Facts row o ps (read_of row account)) → Run answers row g most first last untold before account
+    pub ended : {most : ℕ} {last : C} {untold : Option Outcome} {before : Option Account} → first_no (opening_asked (length row) before g) ≡ None → Ends answers row client (telling outcome account) last made most untold → Audited → Run answers row g most first last untold before account
     ended {most} {last} {untold} asked ends audited = record {
       asked = asked;
       exchanges = so_far.exchanges;

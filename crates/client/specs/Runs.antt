@@ -4,7 +4,7 @@ use Rattle.charges.specs.Meaning.{Meaning}
 use Rattle.fields.specs.Questions.{first_no}
 use Rattle.book.specs.Account.{Account}
 use Rattle.book.specs.Facts.{Facts, read_of}
-use Rattle.book.specs.Opening.{Given, opening_asked, numbers_of, newly_opened}
+use Rattle.book.specs.Opening.{OpeningNumbers, Given, opening_asked, numbers_of, newly_opened}
 use Rattle.book.specs.Reconciled.{BookReconciled}
 use Rattle.book.specs.Tally.{Posting}
 use Rattle.client.specs.Acting.{Acted, Noted}
@@ -32,10 +32,12 @@ abbrev pub Played : List Meaning → List Exchange → Told → Type 0
 Played row [] final = Unit {0}
 Played row (e ∷ es) final = Leads row e.told e.call (first_told es final) × Played row es final
 
--- the calls, noted one after another: the postings are the files that were accepted, with what they came to
-abbrev pub NotedAll : List Posting → List Exchange → Told → List Posting → Type 0
-NotedAll before [] final after = after ≡ before
-NotedAll before (e ∷ es) final after = (between : List Posting) × Noted e.call (first_told es final).outcome before between × NotedAll between es final after
+-- the calls, noted one after another: the postings are the files that were accepted, with what they came to. Whenever the client was told, the facts
+-- held, by the postings up to then, of what it could read in the book
+abbrev pub Journal : List Meaning → OpeningNumbers → List Posting → List Exchange → Told → List Posting → Type 0
+Journal row o before [] final after = after ≡ before
+Journal row o before (e ∷ es) final after =
+    Facts row o before (read_of row e.told.account) × (between : List Posting) × Noted e.call (first_told es final).outcome before between × Journal row o between es final after
 
 module _ {C : Type 0} (answers : C → List Meaning → Told → C → Option Call → Type 0) (row : List Meaning) where
   -- the client's side: told each in turn it chose each call, and so became the last client
@@ -61,7 +63,7 @@ module _ {C : Type 0} (answers : C → List Meaning → Told → C → Option Ca
     pub played : Played row exchanges final
     pub leaves : after ≡ final.account
     pub postings : List Posting
-    pub journal : NotedAll [] exchanges final postings
+    pub journal : Journal row (numbers_of g) [] exchanges final postings
     -- with this a caller goes on to call the book
     pub reconciled : BookReconciled row (numbers_of g) postings after
     pub facts : Facts row (numbers_of g) postings (read_of row after)

@@ -27,9 +27,9 @@ pub fn run<S: Schedule, C: Client<S>>(
     book.open(opening)?;
     let mut outcome = Outcome::Opened;
     for _ in 0..most {
+        // Does nothing; its contract gives the facts of the book that the client is lent.
+        book.audit();
         let Some(call) = client.next(outcome, book) else {
-            // Does nothing; its contract gives the facts.
-            book.audit();
             return Ok(None);
         };
         outcome = act(book, call);

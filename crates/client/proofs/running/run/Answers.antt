@@ -12,7 +12,7 @@ loop-preserved g c =
     let acted = c.act-outcome.ensures in
     record {
       schedule = acted.schedule ∙ c.loop.invariant.schedule;
-      so_far = rw (acted.schedule) (one_made g.C.Client.answers _ c.loop.invariant.so_far c.in-Some.ensures acted.acted acted.reconciled);
+      so_far = rw (acted.schedule) (one_made g.C.Client.answers _ c.loop.invariant.so_far c.in-Some.ensures acted.acted c.audit.ensures acted.reconciled);
     }
 
 pub returns-in_default-clause-cases : goal.returns-in_default-clause-cases
