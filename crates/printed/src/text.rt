@@ -14,7 +14,7 @@ use itoa::{Buffer, Integer};
 use settlement::Rate;
 
 // More than any line has: a letter, up to eleven numbers of up to 40 bytes, each after a space, a standing, and the end of the line.
-const LONGEST: usize = 512;
+pub(crate) const LONGEST: usize = 512;
 
 // A line while it is written, field after field.
 type Text = ArrayString<LONGEST>;
