@@ -1,5 +1,5 @@
 // Working a frame.
-ghost use Rattle.std.specs.Prelude.{◌≡◌, ℕ, Some, OnOk, IfOk, IfSome, MatchResult};
+ghost use Rattle.std.specs.Prelude.{◌≡◌, ℕ, Some, OnOk, IfOk, IfErr, IfSome, MatchResult};
 ghost use Rattle.book.specs.Account.{marks_told};
 ghost use Rattle.book.specs.Duties.{duty_asked, month_of};
 ghost use Rattle.book.specs.Reading.{mark_told, NonePending};
@@ -32,11 +32,11 @@ fn open(book: &mut Book<FourCharges>, frame: &OpeningFrame) -> Result<(), Refusa
     Ok(())
 }
 
-// Enters the file, and hands out the duty to file the month. Two clauses speak of the state once that is filed, and have names that say so.
+// Enters the file, and hands out the duty to file the month. A clause that speaks of the state once that is filed has a name that says so.
 fn enter(book: &mut Book<FourCharges>, file: &[u8]) -> Result<(Duty, Answer), BookFault>
-    ensures cases_once_filed { MatchResult result
-        (λ entered. EntersBy (state_of book.old) file.now (month_of entered.0) entered.1 (once_filed (Some entered.0) (state_of book.new)))
-        (λ e. RefusesPosting Entry (state_of book.old) file.now e (state_of book.new)) }
+    ensures entered_once_filed { IfOk result (λ entered. EntersBy (state_of book.old) file.now (month_of entered.0) entered.1
+        (once_filed (Some entered.0) (state_of book.new))) }
+    ensures refused { IfErr result (λ e. RefusesPosting Entry (state_of book.old) file.now e (state_of book.new)) }
     ensures duty { IfOk result (λ entered. Some entered.0 ≡ handed_out (Line.Entered (month_of entered.0) entered.1) book.new.account) }
     ensures owed { IfOk result (λ entered. first_no (duty_asked book.new.account entered.0) ≡ None) }
     ensures carries_once_filed { IfOk result (λ entered. CarriesJournal (state_of book.old) (once_filed (Some entered.0) (state_of book.new))
@@ -62,7 +62,7 @@ fn amend(book: &mut Book<FourCharges>, file: &[u8]) -> Result<(u16, Answer), Boo
 }
 
 // What the frame asks for is done to the book, or refused. The outcome has the line that tells of it, and with that of an accepted entry the duty to file
-// its month. Clauses that speak of the state once that duty is filed have names that say so; until then the month is pending.
+// its month, which is pending until then. A clause that speaks of the state once that duty is filed has a name that says so.
 pub fn work(book: &mut Book<FourCharges>, frame: &Frame) -> Outcome
     ensures works_once_filed { Works (state_of book.old) (framed frame.now) (line_of result) (once_filed (duty_of result) (state_of book.new)) }
     ensures duty { duty_of result ≡ handed_out (line_of result) book.new.account }

@@ -4,8 +4,8 @@ use Rattle.schedule.specs.Four.{four_charges, cap_of}
 use Rattle.printed.proofs.Journals.{posting_carries, filing_counted, with_filed}
 use Rattle.printed.proofs.working.enter.Goals as goal
 
-pub returns-clause-cases_once_filed : goal.returns-clause-cases_once_filed
-returns-clause-cases_once_filed c =
+pub returns-clause-entered_once_filed : goal.returns-clause-entered_once_filed
+returns-clause-entered_once_filed c =
     let entered = c.in_ok-duty.ensures in
     record {
       entered = c.enter.new.self.account;
