@@ -3,6 +3,7 @@ use Rattle.std.proofs.Common.{refl}
 use Rattle.std.specs.Fmt.{digits}
 use Rattle.fields.specs.Bytes.{be}
 use Rattle.workedcases.specs.WorkedCases.{WorkedCases}
+use Rattle.workedcases.proofs.Run.{printed, printed_alone}
 
 pub worked_cases : WorkedCases
 unfolding be digits
@@ -17,6 +18,9 @@ worked_cases = record {
   amendment_line = refl;
   line_of_an_entry = λ m a. refl;
   line_of_an_amendment = λ m a. refl;
+  stream_length = refl;
+  stream_printed = printed;
+  stream_printed_once = printed_alone;
   entry_balances = refl;
   entry_revenue = refl;
   amendment_balances = refl;

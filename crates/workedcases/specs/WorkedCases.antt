@@ -1,5 +1,5 @@
 -- Worked cases, each by the definitions that the contracts cite. Below zero, neg_ℤ (pos n) is −n.
-use Rattle.std.specs.Prelude.{◌≡◌, ℕ, true, false, [], ◌∷◌, ◌++◌, codes, pos, neg_ℤ, Option, Some, None}
+use Rattle.std.specs.Prelude.{◌≡◌, ℕ, true, false, List, [], ◌∷◌, ◌++◌, length, codes, pos, neg_ℤ, Option, Some, None}
 use Rattle.book.specs.Account.{Account}
 use Rattle.book.specs.Amending.{answer_now, replaced}
 use Rattle.book.specs.Entering.{answer_to, with_month}
@@ -20,7 +20,7 @@ use Rattle.month.specs.Refusals.{month_refusal}
 use Rattle.month.specs.Sample.{sample_month}
 use Rattle.monthfile.specs.Layout.{file_of}
 use Rattle.printed.specs.Lines.{line_bytes, answer_line}
-use Rattle.printed.specs.Runs.{frame_asked, closed}
+use Rattle.printed.specs.Runs.{State, frame_asked, closed, Printed}
 use Rattle.printed.specs.declared.call.Call.TheVariants as call
 use Rattle.printed.specs.declared.line.Line.TheVariants as line
 use Rattle.schedule.specs.Rows.{numbered}
@@ -34,6 +34,7 @@ use Rattle.settlement.specs.declared.band.Band.TheVariants.{Beyond, Between, Wit
 use Rattle.settlement.specs.declared.record.Mark.TheVariants.{Pending, Filed, Missed}
 use Rattle.settlement.specs.declared.standing.Standing.TheVariants.{Steady, Correcting}
 use Rattle.workedcases.specs.Sample.{charges, opening, opened, filed, first, second, owing, rates_after, four_months, thirteen_months, losing, power_at, transmission_at, lifeline_at, price_and_fit}
+use Rattle.workedcases.specs.Stream.{stream, lines, left}
 
 pub record WorkedCases : Type 0 where
   -- month 1 entered into a newly opened book, and then amended to a pilferage recovery of 0
@@ -58,6 +59,10 @@ pub record WorkedCases : Type 0 where
       answer_line call.Amendment 1 (answer_now charges (replaced (sample_month 1 0) filed)) ≡ codes "A 1 49833 10000 4649 3300 -99905398 7294094602 steady" ++ 10 ∷ []
   pub line_of_an_entry : (m : ℕ) (a : Answer) → line_bytes (line.Entered m a) ≡ answer_line call.Entry m (answered a)
   pub line_of_an_amendment : (m : ℕ) (a : Answer) → line_bytes (line.Amended m a) ≡ answer_line call.Amendment m (answered a)
+  -- from bytes to bytes: the run of the opening, the entry and the amendment from a closed book on has these lines, and no others
+  pub stream_length : length stream ≡ 431
+  pub stream_printed : Printed closed stream [] lines left
+  pub stream_printed_once : (out : List ℕ) (after : State) → Printed closed stream [] out after → (out ≡ lines) × (after ≡ left)
   -- the same total and revenue by the tally of the postings
   pub entry_balances : total_by_tally (numbers_of (opening 500)) charges (tally (numbers_of (opening 500)) (first 500 ∷ [])) ≡ neg_ℤ (pos 104757845)
   pub entry_revenue : revenue charges 4 (tally (numbers_of (opening 500)) (first 500 ∷ [])).months ≡ 7289242155
