@@ -30,7 +30,7 @@ use Rattle.book.specs.Sound.{Sound}
 use Rattle.book.specs.Tally.{Posting, Tally, tally}
 use Rattle.book.specs.declared.opened.Opened.{Opened}
 use Rattle.book.proofs.Corrections.{left_correcting}
-use Rattle.book.proofs.Fits.{fit_all_lawful}
+use Rattle.book.proofs.Fits.{fit_all_lawful, months_of}
 use Rattle.book.proofs.Lengths.{tally_as_long}
 use Rattle.book.proofs.Marks.{last_read}
 use Rattle.book.proofs.OfMonth.{of_month_map}
@@ -102,4 +102,4 @@ book_facts row (Some x) months billed records laws sound o ps r =
     let long : length ms ≡ length months = length-map months figures in
     facts row o ps _ r
     (map-map (λ m. m.month) figures months ∙ sound.in_order ∙ ap (by_number suc) (sym long))
-    (λ i inside. fit_all_lawful row ms i laws sound.fit (omega (arith, long, sound.few)) inside)
+    (fit_all_lawful row ms (months_of row (Some x) months billed records sound) laws)

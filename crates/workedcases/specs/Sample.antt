@@ -6,7 +6,7 @@ use Rattle.book.specs.Duties.{marked}
 use Rattle.book.specs.Entering.{answer_to, with_month}
 use Rattle.book.specs.Opening.{Given, newly_opened}
 use Rattle.book.specs.Tally.{Posting, entry, amendment}
-use Rattle.charges.specs.Meaning.{Meaning, price_of}
+use Rattle.charges.specs.Meaning.{Meaning}
 use Rattle.month.specs.Figures.{Figures}
 use Rattle.month.specs.Sample.{sample_month}
 use Rattle.monthfile.specs.Layout.{file_of}
@@ -92,4 +92,4 @@ lifeline_at metering = record hundred_kwh {
 
 -- the base rate of a month that stands alone, and whether the month is fit
 abbrev pub price_and_fit : Meaning → Figures → ℕ × Bool
-price_and_fit k m = (price_of k m, k.fit m)
+price_and_fit k m = ((k.assessed (m ∷ [])).0, k.fit m)
