@@ -24,23 +24,23 @@ use Rattle.book.specs.Reconciled.{Reconciled, BookReconciled, ByRule, standing_l
 use Rattle.book.specs.Tally.{Posting, Posts, amendment, barred_by, posted}
 use Rattle.book.specs.declared.kind.PostingKind.TheVariants.{Amendment}
 use Rattle.book.proofs.Admits.{standing_month}
-use Rattle.book.proofs.Changed.{changed_place, changed_last, take_changed, of_other_month, length_changed, map_changed_at, map_kept, last_of}
+use Rattle.book.proofs.Changed.{changed_place, changed_last, take_before, of_other_month, length_changed, map_changed_at, map_kept, last_of}
 use Rattle.book.proofs.OfMonth.{of_month_before}
 use Rattle.book.proofs.Posted.{AcceptsPosting, posting_reconciled}
 use Rattle.book.proofs.Standings.{StandingsLeft, left_before_last, left_with_last, bar_by_marks}
 
 -- of the closing figures it changes the last
-closings_carried : (answer : Answered) (rs : List Record) → map (λ (r : Record). r.closing) (changed_month (closed_by answer) (length rs) rs) ≡ changed_at (λ (c : Closing). answer.closing) (length (map (λ (r : Record). r.closing) rs) - 1) (map (λ (r : Record). r.closing) rs)
+closings_carried : (answer : Answered) (rs : List Record) → map (λ (r : Record). r.closing) (changed_month (closed_by answer) (length rs) rs) ≡ changed_month (λ (c : Closing). answer.closing) (length (map (λ (r : Record). r.closing) rs)) (map (λ (r : Record). r.closing) rs)
 closings_carried answer [] = refl
 closings_carried answer (r ∷ rs) =
     let closing = λ (x : Record). x.closing in
-    map_changed_at (closed_by answer) (λ (c : Closing). answer.closing) closing (λ _. refl) (r ∷ rs) (length rs) ∙ ap (λ n. changed_at (λ (c : Closing). answer.closing) n (map closing (r ∷ rs))) (omega (arith, length-map rs closing))
+    map_changed_at (closed_by answer) (λ (c : Closing). answer.closing) closing (λ _. refl) (r ∷ rs) (length rs) ∙ ap (λ n. changed_at (λ (c : Closing). answer.closing) n (map closing (r ∷ rs))) (sym (length-map rs closing))
 
 -- what stays of a book that has other figures for a month and is settled
 keeps : (row : List Meaning) (a : Account) (m : Figures) → AmendmentKeeps m.month a (settled_now row (replaced m a))
 keeps row a m =
     let answer = answer_now row (replaced m a) in
-    let last = length (closings_of a) - 1 in
+    let last = length (closings_of a) in
     record {
       number = refl;
       spread = refl;
@@ -51,7 +51,7 @@ keeps row a m =
       marks = map_kept (closed_by answer) (λ (r : Record). r.mark) (λ _. refl) (length a.records) a.records;
       closings =
           ap (take (length a.records - 1)) (closings_carried answer a.records)
-          ∙ take_changed (λ (c : Closing). answer.closing) (closings_of a) last (length a.records - 1) (omega (arith, length-map a.records (λ (x : Record). x.closing)));
+          ∙ take_before (λ (c : Closing). answer.closing) (closings_of a) last (length a.records - 1) (omega (arith, length-map a.records (λ (x : Record). x.closing)));
     }
 
 -- the records with the answer carried out, by the last of them
@@ -96,10 +96,10 @@ module _ (row : List Meaning) (o : OpeningNumbers) (ps : List Posting) (a : Acco
   before_last : length a.records - 1 ≡ length months_now - 1
   before_last = omega (arith, r.recorded, as_many)
 
-  left_by_tally : left_by (record_before_last a) ≡ standing_left (take (length months_now - 1) (changed_at (λ (c : Closing). settled_answer.closing) (length (closings_of a) - 1) (closings_of a)))
+  left_by_tally : left_by (record_before_last a) ≡ standing_left (take (length months_now - 1) (changed_month (λ (c : Closing). settled_answer.closing) (length (closings_of a)) (closings_of a)))
   left_by_tally =
       let long = length-map a.records (λ (x : Record). x.closing) in
-      let same = take_changed (λ (c : Closing). settled_answer.closing) (closings_of a) (length (closings_of a) - 1) (length months_now - 1) (omega (arith, long, before_last)) in
+      let same = take_before (λ (c : Closing). settled_answer.closing) (closings_of a) (length (closings_of a)) (length months_now - 1) (omega (arith, long, before_last)) in
       r.standings (length a.records - 1) (omega arith) ∙ ap standing_left (ap (λ k. take k (closings_of a)) before_last ∙ sym same)
 
   barred_by_marks : is_barred (record_before_last a) ≡ barred_by (marks_of a) (length months_now)

@@ -1,5 +1,5 @@
 -- Lists with f done to the element at a place, or to what stands for a month.
-use Rattle.std.proofs.Common.{◌≡◌, ℕ, zero, suc, ◌+◌, ◌≤◌, List, [], ◌∷◌, ◌++◌, map, length, take, get_or, set, slice_get, refl, ap, arith}
+use Rattle.std.proofs.Common.{◌≡◌, ℕ, zero, suc, ◌+◌, ◌-◌, ◌≤◌, List, [], ◌∷◌, ◌++◌, map, length, take, get_or, set, slice_get, refl, ap, arith}
 use Rattle.std.specs.Option.{option_map}
 use Rattle.book.specs.Places.{of_month, changed_at, changed_month}
 
@@ -33,6 +33,11 @@ module _ {X : Type 0} (f : X → X) where
   take_changed [] n (suc k) h = refl
   take_changed (x ∷ xs) zero (suc k) h = absurd (omega arith)
   take_changed (x ∷ xs) (suc n) (suc k) h = ap (λ zs. x ∷ zs) (take_changed xs n k (omega arith))
+
+  -- what stands before the month stays
+  pub take_before : (xs : List X) (month k : ℕ) → k ≤ month - 1 → take k (changed_month f month xs) ≡ take k xs
+  take_before xs zero k h = refl
+  take_before xs (suc n) k h = take_changed xs n k (omega arith)
 
   get_other : (xs : List X) (n k : ℕ) → (k ≡ n → ⊥) → slice_get (changed_at f n xs) k ≡ slice_get xs k
   get_other [] n k other = refl

@@ -32,7 +32,7 @@ use Rattle.book.specs.Sound.{Sound}
 use Rattle.book.specs.declared.duty.Duty.{Duty}
 use Rattle.book.specs.declared.opened.Opened.{Opened}
 use Rattle.book.proofs.Changed.{of_this_month, of_other_month, length_changed, last_of}
-use Rattle.book.proofs.Fits.{fit_all_lawful}
+use Rattle.book.proofs.Fits.{fit_all_lawful, months_of}
 use Rattle.book.proofs.OfMonth.{of_month_before, of_month_added}
 use Rattle.book.proofs.Sums.{get_by_number}
 
@@ -134,7 +134,7 @@ correctable row o months billed records laws sound some =
       some = omega (arith, some, long);
       recorded = sound.all_recorded ∙ sym long;
       mechanisms = sym sound.suits;
-      lawful = λ i inside. fit_all_lawful row (map figures months) i laws sound.fit (omega (arith, long, sound.few)) inside;
+      lawful = fit_all_lawful row (map figures months) (months_of row (Some o) months billed records sound) laws;
     }
 
 -- and where it was settled: with other rates, and another record for one that stood

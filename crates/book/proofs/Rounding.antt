@@ -1,54 +1,77 @@
 -- What rounding the own rates down leaves over, where all answers keep the law.
-use Rattle.std.proofs.Common.{◌≡◌, ℕ, zero, suc, ◌+◌, ◌*◌, ◌<◌, ◌≤◌, List, [], ◌∷◌, length, sum, refl, ap, sym, ◌∙◌, ℤ, pos, ◌+ℤ◌, ◌-ℤ◌, ◌≤ℤ◌, ◌<ℤ◌, arith}
+use Rattle.std.proofs.Common.{◌≡◌, ℕ, zero, suc, ◌*◌, ◌<◌, ◌≤◌, List, length, ap, sym, subst, ℤ, pos, ◌+ℤ◌, ◌-ℤ◌, ◌*ℤ◌, ◌≤ℤ◌, ◌<ℤ◌, arith}
+use Rattle.std.proofs.Math.IntN.{suc_ℤ-*ℤ, zero-*ℤ}
 use Rattle.std.proofs.lemmas.Int.{ints}
-use Rattle.std.proofs.lemmas.List.{length-map, map-id}
-use Rattle.std.proofs.lemmas.List.Sums.{sum_by_push}
-use Rattle.charges.specs.Meaning.{Meaning}
-use Rattle.month.specs.Figures.{Figures}
-use Rattle.settlement.specs.Months.{assessed_at, allowance_at, quantities, quantity_at, AllLawful}
-use Rattle.settlement.specs.Numbers.{by_number}
-use Rattle.settlement.proofs.Numbers.{is_by_number}
-use Rattle.book.specs.Facts.{allowances_in_all, billed_in_all, at_own_rates, quantity_in_all, opening_balance, balance, rounding_rest, RestBounded}
+use Rattle.charges.specs.Meaning.{Meaning, LawfulAnswer}
+use Rattle.schedule.specs.Rows.{numbered}
+use Rattle.settlement.specs.Months.{assessed_at, quantity_at, AllLawful}
+use Rattle.settlement.specs.Numbers.{by_number, int_sum}
+use Rattle.settlement.proofs.Numbers.{int_sum-push}
+use Rattle.book.specs.Facts.{rounding_rest, RestWithin}
 use Rattle.book.specs.Opening.{OpeningNumbers}
+use Rattle.book.specs.Sums.{balance, all_quantities, quantity, own_rate, allowance, rate_billed}
 use Rattle.book.specs.Tally.{Tally}
+use Rattle.book.proofs.Sums.{place_of_month}
 
-sum_more : (f : ℕ → ℕ) (n : ℕ) → sum (by_number f (suc n)) ≡ sum (by_number f n) + f n
-sum_more f n = sum_by_push (λ x. x) (by_number f n) (f n)
+int_sum_more : (f : ℕ → ℤ) (n : ℕ) → int_sum (by_number f (suc n)) ≡ int_sum (by_number f n) +ℤ f n
+int_sum_more f n = int_sum-push (by_number f n) (f n)
 
--- what month j is billed at its own rate
-abbrev own : Meaning → List Figures → ℕ → ℕ
-own k ms j = (assessed_at k ms j).0 * quantity_at k ms j
+-- a quantity at the difference of a month's own rate and the one that it was billed at
+at_difference : (own q : ℕ) (billed : ℤ) → pos q *ℤ (pos own -ℤ billed) ≡ pos (own * q) -ℤ (pos q *ℤ billed)
+at_difference own zero billed = omega (arith, ints, zero-*ℤ (pos own -ℤ billed), zero-*ℤ billed)
+at_difference own (suc q) billed =
+    let more : pos (suc q) *ℤ (pos own -ℤ billed) ≡ (pos q *ℤ (pos own -ℤ billed)) +ℤ (pos own -ℤ billed) = suc_ℤ-*ℤ (pos q) (pos own -ℤ billed) in
+    let more_billed : pos (suc q) *ℤ billed ≡ (pos q *ℤ billed) +ℤ billed = suc_ℤ-*ℤ (pos q) billed in
+    omega (arith, ints, at_difference own q billed, more, more_billed)
 
--- of the first n months
-module _ (k : Meaning) (ms : List Figures) (all : AllLawful k ms) where
-  covered : (n : ℕ) → n ≤ length ms → sum (by_number (own k ms) n) ≤ sum (by_number (allowance_at k ms) n)
-  covered zero few = omega arith
-  covered (suc n) few = omega (arith, covered n (omega arith), sum_more (own k ms) n, sum_more (allowance_at k ms) n, (all.lawful n few).covered)
+module _ (row : List Meaning) (t : Tally) (i : ℕ) (all : AllLawful (numbered row i) t.months) where
+  -- of the month at a place among the standing ones, which counts from 0: what it may recover, what it was billed, what it was billed below its own rate, and on what
+  abbrev allowed : ℕ → ℤ
+  allowed j = pos (allowance row t i (suc j))
 
-  tight : (n : ℕ) → n ≤ length ms → sum (by_number (allowance_at k ms) n) + n ≤ sum (by_number (own k ms) n) + sum (by_number (quantity_at k ms) n)
-  tight zero few = omega arith
-  tight (suc n) few = omega (arith, tight n (omega arith), sum_more (own k ms) n, sum_more (allowance_at k ms) n, sum_more (quantity_at k ms) n, (all.lawful n few).tight)
+  abbrev billed : ℕ → ℤ
+  billed j = pos (quantity row t i (suc j)) *ℤ rate_billed t i (suc j)
 
-quantities_summed : (k : Meaning) (ms : List Figures) → sum (quantities k ms) ≡ sum (by_number (quantity_at k ms) (length ms))
-quantities_summed k ms =
-    let qs = quantities k ms in
-    ap sum (sym (map-id qs) ∙ is_by_number (λ q. q) qs 0 (quantity_at k ms) (λ j inside. refl) ∙ ap (by_number (quantity_at k ms)) (length-map ms k.quantity))
+  abbrev short : ℕ → ℤ
+  short j = pos (quantity row t i (suc j)) *ℤ (pos (own_rate row t i (suc j)) -ℤ rate_billed t i (suc j))
 
-gap : (opening billed z : ℤ) (allowed own : ℕ) → z ≡ (opening +ℤ pos allowed) -ℤ billed → (z -ℤ opening) -ℤ (pos own -ℤ billed) ≡ pos allowed -ℤ pos own
-gap opening billed z allowed own is = omega (arith, ints)
+  abbrev used : ℕ → ℤ
+  used j = pos (quantity row t i (suc j))
 
-bounded : (ms : List Figures) (left : ℤ) (quantity : ℕ) → (length ms ≡ 0 → left ≡ pos 0) → (0 < length ms → (pos 0 ≤ℤ left) × (left <ℤ pos quantity)) → RestBounded ms left quantity
-bounded [] left quantity none some = none refl
-bounded (m ∷ ms) left quantity none some = some (omega arith)
+  lawful_month : (j : ℕ) → j < length t.months → LawfulAnswer (quantity row t i (suc j)) (assessed_at (numbered row i) t.months j)
+  lawful_month j inside = subst (λ p. LawfulAnswer (quantity_at (numbered row i) t.months p) (assessed_at (numbered row i) t.months j)) (sym (place_of_month j)) (all.lawful j inside)
 
-pub rest_bounded : (o : OpeningNumbers) (k : Meaning) (i : ℕ) (t : Tally) (z : ℤ) → z ≡ balance o k i t → AllLawful k t.months → RestBounded t.months (rounding_rest o k i t z) (quantity_in_all k t)
-rest_bounded o k i t z is all =
-    let ms : List Figures = t.months in
-    let left : rounding_rest o k i t z ≡ pos (allowances_in_all k t) -ℤ pos (at_own_rates k t) = gap (opening_balance o i) (billed_in_all k i t) z (allowances_in_all k t) (at_own_rates k t) is in
-    let least : at_own_rates k t ≤ allowances_in_all k t = covered k ms all (length ms) (omega arith) in
-    let most : allowances_in_all k t + length ms ≤ at_own_rates k t + sum (by_number (quantity_at k ms) (length ms)) = tight k ms all (length ms) (omega arith) in
-    let quantity = quantities_summed k ms in
-    let none : length ms ≡ 0 → rounding_rest o k i t z ≡ pos 0 = λ no_month.
-    let nothing : allowances_in_all k t ≡ 0 = ap (λ n. sum (by_number (allowance_at k ms) n)) no_month in
-    omega (arith, ints, left, least, nothing) in
-    bounded ms (rounding_rest o k i t z) (quantity_in_all k t) none (λ some. (omega (arith, ints, left, least), omega (arith, ints, left, most, quantity)))
+  -- a month leaves over at least 0, and less than its quantity
+  month_covered : (j : ℕ) → j < length t.months → (short j +ℤ billed j) ≤ℤ allowed j
+  month_covered j inside =
+      omega (arith, ints, at_difference (own_rate row t i (suc j)) (quantity row t i (suc j)) (rate_billed t i (suc j)), (lawful_month j inside).covered)
+
+  month_tight : (j : ℕ) → j < length t.months → allowed j <ℤ ((short j +ℤ billed j) +ℤ used j)
+  month_tight j inside =
+      omega (arith, ints, at_difference (own_rate row t i (suc j)) (quantity row t i (suc j)) (rate_billed t i (suc j)), (lawful_month j inside).tight)
+
+  -- so do the first n months
+  covered : (n : ℕ) → n ≤ length t.months → (int_sum (by_number short n) +ℤ int_sum (by_number billed n)) ≤ℤ int_sum (by_number allowed n)
+  covered zero few = omega (arith, ints)
+  covered (suc n) few =
+      omega (arith, ints, covered n (omega arith), month_covered n few, int_sum_more short n, int_sum_more billed n, int_sum_more allowed n)
+
+  tight : (n : ℕ) → n ≤ length t.months → (int_sum (by_number allowed n) +ℤ pos n) ≤ℤ ((int_sum (by_number short n) +ℤ int_sum (by_number billed n)) +ℤ int_sum (by_number used n))
+  tight zero few = omega (arith, ints)
+  tight (suc n) few =
+      omega (arith, ints, tight n (omega arith), month_tight n few, int_sum_more short n, int_sum_more billed n, int_sum_more allowed n, int_sum_more used n)
+
+  -- with no month there is nothing to sum
+  no_month : (f : ℕ → ℤ) (n : ℕ) → n ≡ 0 → int_sum (by_number f n) ≡ pos 0
+  no_month f n none = ap (λ m. int_sum (by_number f m)) none
+
+  pub rest_bounded : (o : OpeningNumbers) (outstanding : ℕ → ℤ) → outstanding i ≡ balance row o t i → RestWithin (length t.months) (all_quantities row t i) (rounding_rest row o t outstanding i)
+  rest_bounded o outstanding is =
+      let n : ℕ = length t.months in
+      let least = covered n (omega arith) in
+      let most = tight n (omega arith) in
+      record {
+        least = omega (arith, ints, is, least);
+        most = λ some. omega (arith, ints, is, most);
+        none = λ none. omega (arith, ints, is, no_month allowed n none, no_month billed n none, no_month short n none);
+      }

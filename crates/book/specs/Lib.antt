@@ -11,6 +11,7 @@ pub mod Reading
 pub mod Reconciled
 pub mod Refusals
 pub mod Sound
+pub mod Sums
 pub mod Tally
 pub mod Words
 pub mod Writing

@@ -3,10 +3,10 @@ use Rattle.std.specs.Prelude.{◌≡◌, ℕ, true, false, List, [], ◌∷◌, 
 use Rattle.book.specs.Account.{Account}
 use Rattle.book.specs.Amending.{answer_now, replaced}
 use Rattle.book.specs.Entering.{answer_to, with_month}
-use Rattle.book.specs.Facts.{total_by_tally, rate_by_tally}
 use Rattle.book.specs.Opening.{numbers_of}
 use Rattle.book.specs.Postings.{all_asked}
 use Rattle.book.specs.Refusals.{book_refusal}
+use Rattle.book.specs.Sums.{total_by_tally, rate_by_tally}
 use Rattle.book.specs.Tally.{tally}
 use Rattle.book.specs.declared.kind.PostingKind.{PostingKind}
 use Rattle.book.specs.declared.kind.PostingKind.TheVariants.{Entry, Amendment}
@@ -23,7 +23,6 @@ use Rattle.printed.specs.Lines.{line_bytes, answer_line}
 use Rattle.printed.specs.Runs.{State, frame_asked, closed, Printed}
 use Rattle.printed.specs.declared.call.Call.TheVariants as call
 use Rattle.printed.specs.declared.line.Line.TheVariants as line
-use Rattle.schedule.specs.Rows.{numbered}
 use Rattle.settlement.specs.Settling.{answered, standing_after}
 use Rattle.settlement.specs.Bands.{band}
 use Rattle.settlement.specs.Corrections.{spread_over, correction}
@@ -64,10 +63,10 @@ pub record WorkedCases : Type 0 where
   pub stream_printed : Printed closed stream [] lines left
   pub stream_printed_once : (out : List ℕ) (after : State) → Printed closed stream [] out after → (out ≡ lines) × (after ≡ left)
   -- the same total and revenue by the tally of the postings
-  pub entry_balances : total_by_tally (numbers_of (opening 500)) charges (tally (numbers_of (opening 500)) (first 500 ∷ [])) ≡ neg_ℤ (pos 104757845)
+  pub entry_balances : total_by_tally charges (numbers_of (opening 500)) (tally (numbers_of (opening 500)) (first 500 ∷ [])) ≡ neg_ℤ (pos 104757845)
   pub entry_revenue : revenue charges 4 (tally (numbers_of (opening 500)) (first 500 ∷ [])).months ≡ 7289242155
   pub amendment_balances :
-      total_by_tally (numbers_of (opening 500)) charges (tally (numbers_of (opening 500)) (first 500 ∷ second ∷ [])) ≡ neg_ℤ (pos 99905398)
+      total_by_tally charges (numbers_of (opening 500)) (tally (numbers_of (opening 500)) (first 500 ∷ second ∷ [])) ≡ neg_ℤ (pos 99905398)
   pub amendment_revenue : revenue charges 4 (tally (numbers_of (opening 500)) (first 500 ∷ second ∷ [])).months ≡ 7294094602
   -- with a starting rate of 8,000 of the lifeline charge, the total is beyond its band
   pub correcting_entry_answered : answer_to charges (opened 8000) (sample_month 1 50000) ≡ record {
@@ -79,9 +78,9 @@ pub record WorkedCases : Type 0 where
       answer_line call.Entry 1 (answer_to charges (opened 8000) (sample_month 1 50000)) ≡ codes "E 1 49757 10000 4086 2517 -854757845 7289242155 correcting" ++ 10 ∷ []
   -- the same total and rates by the tally of the posting
   pub correcting_entry_balances :
-      total_by_tally (numbers_of (opening 8000)) charges (tally (numbers_of (opening 8000)) (first 8000 ∷ [])) ≡ neg_ℤ (pos 854757845)
+      total_by_tally charges (numbers_of (opening 8000)) (tally (numbers_of (opening 8000)) (first 8000 ∷ [])) ≡ neg_ℤ (pos 854757845)
   pub correcting_entry_rates :
-      by_number (λ i. rate_by_tally (numbers_of (opening 8000)) [] Correcting (numbered charges i) i (tally (numbers_of (opening 8000)) (first 8000 ∷ []))) 4
+      by_number (rate_by_tally charges (numbers_of (opening 8000)) (tally (numbers_of (opening 8000)) (first 8000 ∷ [])) [] Correcting) 4
       ≡ pos 49757 ∷ pos 10000 ∷ pos 4086 ∷ pos 2517 ∷ []
   -- a tenth of the revenue, and one unit more
   pub tenth_not_beyond : band (pos 100) 1000 ≡ Between

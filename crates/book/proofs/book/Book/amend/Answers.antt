@@ -1,4 +1,4 @@
--- A file that is accepted amends a month, and is the next posting.
+-- A file that is accepted amends a month, and is the next posting; the rates announced after it keep the laws of a correction.
 use Rattle.std.proofs.Common.{ap, subst}
 use Rattle.std.proofs.lemmas.Result.{err_from_is_err_and}
 use Rattle.month.specs.View.{figures}

@@ -1,4 +1,4 @@
--- A file that is accepted is the next posting.
+-- A file that is accepted is the next posting, and the rates announced after it keep the laws of a correction.
 use Rattle.std.proofs.lemmas.Result.{err_from_is_err_and}
 use Rattle.settlement.specs.CorrectionLaws.{Corrects, Rounds}
 use Rattle.settlement.specs.Settling.{answered}
