@@ -82,12 +82,12 @@ module _ (k : Meaning) where
           allowances = rw (map_push allowance_of found a, answers_more (λ p. p.1), so_far.allowances) (λ i. allowances k ms ++ (last.answer i).1 ∷ []);
         }
 
-  -- one month more of those that stand, and its assessment
-  pub assesses_next : (months : List Month) (n : ℕ) (before after : UpTo Assessment 36) (a : Assessment) → Assesses k (map figures (take n months)) (held before) → AssessesLast k (map figures (take (n + 1) months)) a → n < length months → Grew before after a → Assesses k (map figures (take (n + 1) months)) (held after)
-  assesses_next months n before after a so_far last h grew =
+  -- one month more of those that stand, and its assessment, in a list with room for no more than may stand
+  pub assesses_next : (months : List Month) (n : ℕ) {room : ℕ} (before after : UpTo Assessment room) (a : Assessment) → room ≤ 36 → Assesses k (map figures (take n months)) (held before) → AssessesLast k (map figures (take (n + 1) months)) a → n < length months → Grew before after a → Assesses k (map figures (take (n + 1) months)) (held after)
+  assesses_next months n before after a most so_far last h grew =
       let next = next_taken months n h in
       let is : map figures (take (n + 1) months) ≡ map figures (take n months) ++ figures next.0 ∷ [] = ap (map figures) next.1 ∙ map_push figures (take n months) next.0 in
-      rw (is, grew.items) (assesses_more (map figures (take n months)) (figures next.0) (held before) a so_far (rw is at last) grew.room)
+      rw (is, grew.items) (assesses_more (map figures (take n months)) (figures next.0) (held before) a so_far (rw is at last) (omega (arith, grew.room, most)))
 
   -- where the answer for one month breaks the law, those for all do
   pub unlawful_by : (months : List Month) (n : ℕ) → ¬ LawfulLast k (map figures (take (n + 1) months)) → n < length months → ¬ AllLawful k (map figures months)
