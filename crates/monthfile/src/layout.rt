@@ -51,8 +51,7 @@ pub(crate) fn read_values<'a>(file: &'a [u8]) -> Result<Values<'a>, FileFault>
     ensures { MatchResult result (λ v. MadeOf file.now v.month.now v.sources.now v.pilferage.now v.transmission.now v.energy.now v.brackets.now v.sales.now) (λ e. first_no (file_asked file.now) ≡ Some e) }
 {
     let mut reader = Reader::new(file);
-    // Each is replaced below, by its index: no proof knows what an `iter_mut` under a `zip` wrote, and a `Result` of an array of references,
-    // as `try_map` gives, gets no generated proof.
+    // Each is replaced below, by its index: no proof knows what an `iter_mut` under a `zip` wrote.
     let mut values = [file; 7];
     for (i, due) in due_fields().iter().enumerate() {
         values[i] = reader.field(*due)?;
