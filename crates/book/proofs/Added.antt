@@ -1,6 +1,6 @@
 -- What a month that is added keeps.
 use Rattle.std.proofs.Common.{◌≡◌, ℕ, suc, ◌+◌, ◌<◌, true, List, [], ◌∷◌, ◌++◌, map, length, Option, Some, None, sym, refl, ap, ◌∙◌, subst, nat_eq, eq-eqb, arith}
-use Rattle.std.proofs.lemmas.List.{length_push, map_push}
+use Rattle.std.proofs.lemmas.List.{length-map, length_push, map_push}
 use Rattle.std.proofs.lemmas.List.Elements.{All-push}
 use Rattle.bounded.specs.declared.up_to.UpTo.{UpTo}
 use Rattle.charges.specs.Meaning.{Meaning}
@@ -24,6 +24,7 @@ use Rattle.book.specs.Sound.{Sound, AllFit}
 use Rattle.book.specs.declared.duty.Duty.{Duty}
 use Rattle.book.specs.declared.kind.PostingKind.TheVariants.{Entry}
 use Rattle.book.specs.declared.opened.Opened.{Opened}
+use Rattle.book.proofs.Fits.{BookMonths}
 use Rattle.book.proofs.Admits.{Admits, admits, next_month}
 use Rattle.book.proofs.OfMonth.{of_month_added}
 
@@ -31,6 +32,18 @@ module _ (row : List Meaning) (months : List Month) (m : Month) where
   pub all_fit_added : AllFit row (map figures months) → ((i : ℕ) → i < length row → (numbered row i).fit (figures m) ≡ true) → AllFit row (map figures months ++ figures m ∷ [])
   all_fit_added fit fits i inside =
       All-push (λ f. Valid f × ((numbered row i).fit f ≡ true)) (map figures months) (figures m) (fit i inside) (month_valid m, fits i inside)
+
+  -- the months of a book with the one that is taken
+  pub months_added : BookMonths row (map figures months) → Admits Entry row (length months) (figures m) → BookMonths row (map figures months ++ figures m ∷ [])
+  months_added before admitted =
+      let ms = map figures months in
+      let more : length (ms ++ figures m ∷ []) ≡ suc (length ms) = omega (arith, length_push ms (figures m)) in
+      let number : (figures m).month ≡ suc (length ms) = omega (arith, next_month (figures m).month (length months) admitted.placed, length-map months figures) in
+      record {
+        few = omega (arith, more, number, (month_valid m).within.month_most);
+        in_order = map_push (λ x. x.month) ms (figures m) ∙ (λ i. before.in_order i ++ number i ∷ []) ∙ ap (by_number suc) (sym more);
+        fit = all_fit_added before.fit admitted.fit;
+      }
 
   -- a sound book that is open is sound with one month more
   sound_added : (o next : Opened) (billed : List (UpTo Rate 8)) (records : List Record) (rates : UpTo Rate 8) (r : Record) → next.terms ≡ o.terms → Sound row (Some o) months billed records → Admits Entry row (length months) (figures m) → Sound row (Some next) (months ++ m ∷ []) (billed ++ rates ∷ []) (records ++ r ∷ [])

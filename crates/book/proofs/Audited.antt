@@ -4,10 +4,8 @@ use Rattle.std.specs.Option.{option_map, option_and_then}
 use Rattle.std.proofs.lemmas.Int.{ints}
 use Rattle.std.proofs.lemmas.List.{length-map, take_all}
 use Rattle.std.proofs.lemmas.Option.{slice_get-get_or, slice_get_past}
-use Rattle.std.proofs.lemmas.Simd.{map-map}
 use Rattle.bounded.specs.declared.up_to.UpTo.{UpTo}
 use Rattle.charges.specs.Meaning.{Meaning, Lawful}
-use Rattle.month.specs.Figures.{Figures}
 use Rattle.month.specs.View.{figures}
 use Rattle.month.specs.declared.month.Month.{Month}
 use Rattle.monthfile.specs.Layout.{file_of}
@@ -30,7 +28,7 @@ use Rattle.book.specs.Sums.{opening_balance, balance}
 use Rattle.book.specs.Tally.{Posting, Tally, tally}
 use Rattle.book.specs.declared.opened.Opened.{Opened}
 use Rattle.book.proofs.Corrections.{left_correcting}
-use Rattle.book.proofs.Fits.{fit_all_lawful}
+use Rattle.book.proofs.Fits.{fit_all_lawful, months_of}
 use Rattle.book.proofs.Lengths.{tally_as_long}
 use Rattle.book.proofs.Marks.{last_read}
 use Rattle.book.proofs.OfMonth.{of_month_map}
@@ -121,8 +119,5 @@ module _ (row : List Meaning) (o : OpeningNumbers) (ps : List Posting) (a : Acco
 pub book_facts : (row : List Meaning) (opened : Option Opened) (months : List Month) (billed : List (UpTo Rate 8)) (records : List Record) → All Lawful row → Sound row opened months billed records → (o : OpeningNumbers) (ps : List Posting) → BookReconciled row o ps (held_by opened months billed records) → Facts row o ps (read_of row (held_by opened months billed records))
 book_facts row None months billed records laws sound o ps r = absurd r
 book_facts row (Some x) months billed records laws sound o ps r =
-    let ms : List Figures = map figures months in
-    let long : length ms ≡ length months = length-map months figures in
-    facts row o ps _ r
-    (map-map (λ m. m.month) figures months ∙ sound.in_order ∙ ap (by_number suc) (sym long))
-    (λ i inside. fit_all_lawful row ms i laws sound.fit (omega (arith, long, sound.few)) inside)
+    let stand = months_of row (Some x) months billed records sound in
+    facts row o ps _ r stand.in_order (fit_all_lawful row (map figures months) stand laws)

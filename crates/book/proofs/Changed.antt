@@ -1,5 +1,6 @@
 -- Lists with f done to the element at a place, or to what stands for a month.
 use Rattle.std.proofs.Common.{◌≡◌, ℕ, zero, suc, ◌+◌, ◌-◌, ◌≤◌, List, [], ◌∷◌, ◌++◌, map, length, take, get_or, set, slice_get, refl, ap, arith}
+use Rattle.std.specs.Option.{option_map}
 use Rattle.book.specs.Places.{of_month, changed_at, changed_month}
 
 -- a write of y
@@ -50,6 +51,16 @@ module _ {X : Type 0} (f : X → X) where
   of_other_month xs zero other is_other = refl
   of_other_month xs (suc n) zero is_other = refl
   of_other_month xs (suc n) (suc k) is_other = get_other xs n k (λ e. is_other (ap suc e))
+
+  get_this : (xs : List X) (n : ℕ) → slice_get (changed_at f n xs) n ≡ option_map f (slice_get xs n)
+  get_this [] n = refl
+  get_this (x ∷ xs) zero = refl
+  get_this (x ∷ xs) (suc n) = get_this xs n
+
+  -- the month itself
+  pub of_this_month : (xs : List X) (month : ℕ) → of_month (changed_month f month xs) month ≡ option_map f (of_month xs month)
+  of_this_month xs zero = refl
+  of_this_month xs (suc n) = get_this xs n
 
   pub length_changed_at : (xs : List X) (n : ℕ) → length (changed_at f n xs) ≡ length xs
   length_changed_at [] n = refl

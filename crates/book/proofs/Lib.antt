@@ -5,6 +5,7 @@ pub mod Amended
 pub mod Asking
 pub mod Audited
 pub mod Changed
+pub mod Corrected
 pub mod Corrections
 pub mod Counted
 pub mod Fits

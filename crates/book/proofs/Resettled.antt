@@ -17,7 +17,7 @@ use Rattle.book.specs.Places.{of_month, changed_month}
 use Rattle.book.specs.Sound.{Sound}
 use Rattle.book.specs.declared.opened.Opened.{Opened}
 use Rattle.book.proofs.Changed.{set_changed, changed_place}
-use Rattle.book.proofs.Fits.{fit_lawfully}
+use Rattle.book.proofs.Fits.{fit_lawfully, months_of}
 
 module _ (row : List Meaning) (months : List Month) (billed : List (UpTo Rate 8)) (records : List Record) where
   -- a month stands, and has a record
@@ -29,7 +29,7 @@ module _ (row : List Meaning) (months : List Month) (billed : List (UpTo Rate 8)
   settles_now o is laws sound some =
       let sound_open = subst (λ (x : Option Opened). Sound row x months billed records) is sound in
       let some_open = subst (λ (x : Option Opened). SomeMonth (held_by x months billed records)) is some in
-      fit_lawfully row (map figures months) (length (opening_units o.terms.balances)) laws sound_open.fit (omega (arith, sound_open.few, length-map months figures)) some_open (sym sound_open.suits)
+      fit_lawfully row (map figures months) (months_of row (Some o) months billed records sound_open) laws (length (opening_units o.terms.balances)) (sym sound_open.suits) some_open
 
   -- of the record r that is read only the mark stays
   pub settled_by_write : (o : Opened) (last : ℕ) (r : Record) (before : Option Record) (answer : Answer) → length records ≡ last + 1 → r ≡ get_or records last r → before ≡ of_month records last

@@ -1,7 +1,7 @@
 -- A month that is taken can be settled after those that stand.
-use Rattle.std.proofs.Common.{◌≡◌, ◌+◌, ◌<◌, List, [], ◌∷◌, ◌++◌, map, length, Option, Some, None, sym, subst, arith}
+use Rattle.std.proofs.Common.{◌≡◌, ◌<◌, List, [], ◌∷◌, ◌++◌, map, length, Option, Some, None, sym, subst, arith}
 use Rattle.std.specs.List.{All}
-use Rattle.std.proofs.lemmas.List.{length-map, length_push}
+use Rattle.std.proofs.lemmas.List.{length_push}
 use Rattle.bounded.specs.declared.up_to.UpTo.{UpTo}
 use Rattle.charges.specs.Meaning.{Meaning, Lawful}
 use Rattle.fields.specs.Questions.{first_no}
@@ -18,9 +18,9 @@ use Rattle.book.specs.Postings.{posting_asked}
 use Rattle.book.specs.Sound.{Sound}
 use Rattle.book.specs.declared.kind.PostingKind.TheVariants.{Entry}
 use Rattle.book.specs.declared.opened.Opened.{Opened}
-use Rattle.book.proofs.Added.{all_fit_added, room_for_month}
+use Rattle.book.proofs.Added.{months_added, room_for_month}
 use Rattle.book.proofs.Admits.{admits, next_month}
-use Rattle.book.proofs.Fits.{fit_lawfully}
+use Rattle.book.proofs.Fits.{fit_lawfully, months_of}
 
 -- there is room for the month, and the answers of all mechanisms keep the law
 pub record Settles (row : List Meaning) (o : Opened) (months : List Month) (billed : List (UpTo Rate 8)) (m : Month) : Type 0 where
@@ -37,13 +37,12 @@ module _ (row : List Meaning) {opened : Option Opened} (o : Opened) (months : Li
       let follows = next_month (figures m).month (length months) known.placed in
       let limit = (month_valid m).within.month_most in
       let ms = map figures months in
-      let all = all_fit_added row months m sound_open.fit known.fit in
-      let long : length (ms ++ figures m ∷ []) ≡ length months + 1 = omega (arith, length_push ms (figures m), length-map months figures) in
+      let stand = months_added row months m (months_of row (Some o) months billed records sound_open) known in
       let room = room_for_month row months m o billed records is sound clear in
       record {
         room = room.0;
         room_billed = room.1;
-        lawful = fit_lawfully row (ms ++ figures m ∷ []) (length (opening_units o.terms.balances)) laws all (omega (arith, long, limit, follows)) (omega (arith, long)) (sym sound_open.suits);
+        lawful = fit_lawfully row (ms ++ figures m ∷ []) stand laws (length (opening_units o.terms.balances)) (sym sound_open.suits) (omega (arith, length_push ms (figures m)));
       }
 
   -- an answer of the open book is one of the book

@@ -1,5 +1,6 @@
 pub mod Account
 pub mod Amending
+pub mod Corrected
 pub mod Duties
 pub mod Entering
 pub mod Facts

@@ -21,7 +21,7 @@ use Rattle.book.specs.declared.kind.PostingKind.TheVariants.{Entry, Amendment}
 -- - of a client's run by `EntryActed` and `AmendmentActed`, by which the client is told `marks_told` of
 --   the book before, and by `EntryNoted` and `AmendmentNoted`, which take what it was told
 --   (crates/client/specs/Acting.antt);
--- - of a printed run by clause `journaled` of `work` (crates/printed/src/working.rt) and by
+-- - of a printed run by clause `journaled_once_filed` of `work` (crates/printed/src/working.rt) and by
 --   `JournaledAll`, which take `marks_told` of the state before a frame
 --   (crates/printed/specs/Journals.antt).
 --

@@ -2,7 +2,7 @@
 use Rattle.std.proofs.Common.{◌≡◌, ℕ, true, false, [], ◌∷◌, replicate, refl}
 use Rattle.month.specs.Figures.{Figures}
 use Rattle.month.specs.Sample.{sample_month}
-use Rattle.charges.specs.Charges.{generation, transmission, loss, lifeline}
+use Rattle.charges.specs.Charges.{generation, transmission, priced_generation, priced_transmission, loss, lifeline}
 use Rattle.charges.specs.Formulas.{twelve_months, gross_up}
 
 abbrev sample : ℕ → Figures
@@ -14,7 +14,7 @@ sample_generation = refl
 sample_transmission : transmission.assessed (sample 50000 ∷ []) ≡ (10000, 1080000000)
 sample_transmission = refl
 
-sample_loss : (loss generation transmission 500).assessed (sample 50000 ∷ []) ≡ (4645, 501742155)
+sample_loss : (loss priced_generation priced_transmission 500).assessed (sample 50000 ∷ []) ≡ (4645, 501742155)
 sample_loss = refl
 
 sample_lifeline : lifeline.assessed (sample 50000 ∷ []) ≡ (3300, 330000000)
@@ -23,7 +23,7 @@ sample_lifeline = refl
 generation_without_pilferage : generation.assessed (sample 0 ∷ []) ≡ (49833, 5382000000)
 generation_without_pilferage = refl
 
-loss_without_pilferage : (loss generation transmission 500).assessed (sample 0 ∷ []) ≡ (4649, 502094602)
+loss_without_pilferage : (loss priced_generation priced_transmission 500).assessed (sample 0 ∷ []) ≡ (4649, 502094602)
 loss_without_pilferage = refl
 
 -- of 13 months the last 12 count

@@ -3,7 +3,7 @@ use Rattle.std.specs.Prelude.{ℕ, ◌*◌, ◌/◌, Bool, if◌then◌else◌, 
 use Rattle.month.specs.Amounts.{sold, discount}
 use Rattle.month.specs.Figures.{Figures}
 use Rattle.charges.specs.Formulas.{generation_rate, generation_allowance, transmission_rate, transmission_allowance, twelve_months, gross_up, loss_rate, loss_allowance, lifeline_rate}
-use Rattle.charges.specs.Meaning.{Meaning, price_of}
+use Rattle.charges.specs.Meaning.{Meaning, Pricing, with_price}
 
 -- an answer for the last of the months; with no month, rate 0 and allowance 0
 abbrev pub for_last : (Figures → ℕ × ℕ) → List Figures → ℕ × ℕ
@@ -21,14 +21,21 @@ generation = record { fit = λ m. rate_fits (generation_rate m); quantity = sold
 abbrev pub transmission : Meaning
 transmission = record { fit = λ m. rate_fits (transmission_rate m); quantity = sold; assessed = for_last (λ m. (transmission_rate m, transmission_allowance m)) }
 
--- over any two mechanisms, at their prices; 0 and 0 for a month that is not fit
-abbrev pub loss : Meaning → Meaning → ℕ → Meaning
+-- the two on whose prices the loss charge of the resolution stands
+abbrev pub priced_generation : Pricing
+priced_generation = with_price generation generation_rate
+
+abbrev pub priced_transmission : Pricing
+priced_transmission = with_price transmission transmission_rate
+
+-- over any two priced mechanisms, at their prices; 0 and 0 for a month that is not fit
+abbrev pub loss : Pricing → Pricing → ℕ → Meaning
 loss g t cap = record {
-  fit = λ m. g.fit m && t.fit m;
+  fit = λ m. g.meaning.fit m && t.meaning.fit m;
   quantity = sold;
   assessed = λ ms.
       let u = gross_up cap (twelve_months ms) in
-      for_last (λ m. if g.fit m && t.fit m then (loss_rate (price_of g m) (price_of t m) u, loss_allowance (price_of g m) (price_of t m) u (sold m)) else (0, 0)) ms;
+      for_last (λ m. if g.meaning.fit m && t.meaning.fit m then (loss_rate (g.price m) (t.price m) u, loss_allowance (g.price m) (t.price m) u (sold m)) else (0, 0)) ms;
 }
 
 abbrev pub lifeline : Meaning

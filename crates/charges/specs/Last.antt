@@ -8,16 +8,16 @@ use Rattle.month.specs.Figures.{Figures}
 use Rattle.month.specs.Valid.{Valid}
 use Rattle.month.specs.View.{figures}
 use Rattle.charges.specs.Charges.{for_last}
-use Rattle.charges.specs.Meaning.{Meaning, FitMonths}
+use Rattle.charges.specs.Meaning.{Meaning, CanStand}
 
 pub last_answered : (answer : Figures → ℕ × ℕ) (before : List Figures) (m : Figures) → for_last answer (before ++ m ∷ []) ≡ answer m
 last_answered answer [] m = refl
 last_answered answer (x ∷ []) m = refl
 last_answered answer (x ∷ y ∷ ys) m = last_answered answer (y ∷ ys) m
 
--- what is known of the last of fit months
-pub last_fit : (k : Meaning) (before : List Figures) (m : Figures) → FitMonths k (before ++ m ∷ []) → Valid m × (k.fit m ≡ true)
-last_fit k before m a = All-contains (λ f. Valid f × (k.fit f ≡ true)) (before ++ m ∷ []) m a (Contains-push before m)
+-- what is known of the last of months that can stand
+pub last_fit : (k : Meaning) (before : List Figures) (m : Figures) → CanStand k (before ++ m ∷ []) → Valid m × (k.fit m ≡ true)
+last_fit k before m stands = All-contains (λ f. Valid f × (k.fit f ≡ true)) (before ++ m ∷ []) m stands.fit (Contains-push before m)
 
 -- a slice of months, as it is told whether it has a last one
 module _ (ms : List Month) where

@@ -1,5 +1,6 @@
 // A purchase charged at its average cost per kWh of the input that bears it.
-ghost use Rattle.std.specs.Prelude.{◌≡◌, ◌*◌, ◌^◌, ◌<◌};
+ghost use Rattle.std.specs.Prelude.{◌≡◌, ◌*◌, ◌/◌, ◌^◌, ◌<◌};
+ghost use Rattle.month.specs.View.{figures};
 ghost use Rattle.charges.specs.Charges.{average_cost, averaged};
 ghost use Rattle.charges.specs.Laws.{average_lawful, average_priced};
 
@@ -23,13 +24,22 @@ pub(crate) fn averaged(cost: u64, divisor: u64, quantity: u64) -> (u64, u64)
     (cost / divisor, cost * quantity / divisor)
 }
 
+impl<P: Purchase> AverageCost<P> {
+    // The average rounded down, of any month.
+    fn average(&self, month: &Month) -> u64
+        ensures { result ≡ P.Purchase.cost self.now.purchase (figures month.now) / P.Purchase.divisor self.now.purchase (figures month.now) }
+    {
+        self.purchase.cost(month) / self.purchase.divisor(month)
+    }
+}
+
 impl<P: Purchase> Mechanism for AverageCost<P> {
     ghost meaning = { λ s. average_cost (P.Purchase.cost s.purchase) (P.Purchase.divisor s.purchase) };
 
     ghost lawful = { λ s. average_lawful (P.Purchase.cost s.purchase) (P.Purchase.divisor s.purchase) (P.Purchase.divisor_least s.purchase) };
 
     fn is_fit(&self, month: &Month) -> bool {
-        self.price(month) <= MAX_FIT_RATE
+        self.average(month) <= MAX_FIT_RATE
     }
 
     fn quantity(&self, month: &Month) -> u64 {
@@ -48,10 +58,12 @@ impl<P: Purchase> Mechanism for AverageCost<P> {
 }
 
 impl<P: Purchase> Priced for AverageCost<P> {
+    ghost price = { λ s m. P.Purchase.cost s.purchase m / P.Purchase.divisor s.purchase m };
+
     ghost priced = { λ s. average_priced (P.Purchase.cost s.purchase) (P.Purchase.divisor s.purchase) };
 
     #[tactic(auto, using(crate::specs::Laws::average_price))]
     fn price(&self, month: &Month) -> u64 {
-        self.purchase.cost(month) / self.purchase.divisor(month)
+        self.average(month)
     }
 }

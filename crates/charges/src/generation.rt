@@ -2,11 +2,12 @@
 ghost use Rattle.std.specs.Prelude.{◌≡◌};
 ghost use Rattle.month.specs.Amounts.{generation_cost};
 ghost use Rattle.charges.specs.Charges.{generation};
-ghost use Rattle.charges.specs.Formulas.{generation_divisor};
+ghost use Rattle.charges.specs.Formulas.{generation_divisor, generation_rate};
 ghost use Rattle.std.proofs.Common.{rules};
 
 use crate::average_cost::AverageCost;
 use crate::mechanism::Mechanism;
+use crate::priced::Priced;
 use crate::purchase::Purchase;
 use month::Month;
 
@@ -14,7 +15,8 @@ pub type Generation = AverageCost<PowerSupply>;
 
 impl Generation {
     pub fn new() -> Generation
-        ensures { ⟦<Generation as Mechanism>⟧.meaning result ≡ generation }
+        ensures meaning { ⟦<Generation as Mechanism>⟧.meaning result ≡ generation }
+        ensures price { ⟦<Generation as Priced>⟧.price result ≡ generation_rate }
     {
         AverageCost {
             purchase: PowerSupply,

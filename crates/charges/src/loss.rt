@@ -5,6 +5,7 @@ ghost use Rattle.charges.specs.Charges.{loss};
 ghost use Rattle.charges.specs.Formulas.{gross_up, twelve_months};
 ghost use Rattle.charges.specs.Losses.{loss_lawful};
 ghost use Rattle.charges.specs.Making.{Made, NotMade};
+ghost use Rattle.charges.specs.Meaning.{with_price};
 
 use crate::average_cost::averaged;
 use crate::cap::{Cap, CapTooHigh};
@@ -27,7 +28,9 @@ impl<G: Priced, T: Priced> Loss<G, T> {
         G: Drop,
         T: Drop,
         ensures cases { MatchResult result (λ l. Made generation transmission cap l) (λ e. NotMade cap e) }
-        ensures meaning { IfOk result (λ l. ⟦<Loss<G, T> as Mechanism>⟧.meaning l ≡ loss (G.Mechanism.meaning generation) (T.Mechanism.meaning transmission) cap) }
+        ensures meaning { IfOk result (λ l. ⟦<Loss<G, T> as Mechanism>⟧.meaning l
+            ≡ loss (with_price (G.Mechanism.meaning generation) (G.Priced.price generation))
+            (with_price (T.Mechanism.meaning transmission) (T.Priced.price transmission)) cap) }
     {
         let cap = Cap::try_from(cap)?;
         Ok(Loss {
@@ -50,9 +53,12 @@ fn gross_up(cap: Cap, months: &[Month]) -> u64
 }
 
 impl<G: Priced, T: Priced> Mechanism for Loss<G, T> {
-    ghost meaning = { λ s. loss (G.Mechanism.meaning s.generation) (T.Mechanism.meaning s.transmission) s.cap.hundredths };
+    ghost meaning = { λ s. loss (with_price (G.Mechanism.meaning s.generation) (G.Priced.price s.generation))
+        (with_price (T.Mechanism.meaning s.transmission) (T.Priced.price s.transmission)) s.cap.hundredths };
 
-    ghost lawful = { λ s. loss_lawful (G.Mechanism.meaning s.generation) (T.Mechanism.meaning s.transmission) (G.Priced.priced s.generation) (T.Priced.priced s.transmission) s.cap.hundredths };
+    ghost lawful = { λ s. loss_lawful (with_price (G.Mechanism.meaning s.generation) (G.Priced.price s.generation))
+        (with_price (T.Mechanism.meaning s.transmission) (T.Priced.price s.transmission))
+        (G.Priced.priced s.generation) (T.Priced.priced s.transmission) s.cap.hundredths };
 
     fn is_fit(&self, month: &Month) -> bool {
         self.generation.is_fit(month) && self.transmission.is_fit(month)

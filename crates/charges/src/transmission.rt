@@ -2,11 +2,12 @@
 ghost use Rattle.std.specs.Prelude.{◌≡◌};
 ghost use Rattle.month.specs.Amounts.{transmission_cost};
 ghost use Rattle.charges.specs.Charges.{transmission};
-ghost use Rattle.charges.specs.Formulas.{transmission_divisor};
+ghost use Rattle.charges.specs.Formulas.{transmission_divisor, transmission_rate};
 ghost use Rattle.std.proofs.Common.{rules};
 
 use crate::average_cost::AverageCost;
 use crate::mechanism::Mechanism;
+use crate::priced::Priced;
 use crate::purchase::Purchase;
 use month::Month;
 
@@ -14,7 +15,8 @@ pub type Transmission = AverageCost<TransmissionService>;
 
 impl Transmission {
     pub fn new() -> Transmission
-        ensures { ⟦<Transmission as Mechanism>⟧.meaning result ≡ transmission }
+        ensures meaning { ⟦<Transmission as Mechanism>⟧.meaning result ≡ transmission }
+        ensures price { ⟦<Transmission as Priced>⟧.price result ≡ transmission_rate }
     {
         AverageCost {
             purchase: TransmissionService,

@@ -1,3 +1,4 @@
+pub mod Clearing
 pub mod Noting
 pub mod Prompts
 pub mod Transcripts

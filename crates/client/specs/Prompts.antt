@@ -1,5 +1,7 @@
 -- What a prompt client does.
-use Rattle.std.specs.Prelude.{◌≡◌, [], ◌∷◌, Option, Some, None}
+use Rattle.std.specs.Prelude.{◌≡◌, List, [], ◌∷◌, Option, Some, None}
+use Rattle.charges.specs.Meaning.{Meaning}
+use Rattle.client.specs.Telling.{Told}
 use Rattle.client.specs.declared.call.Call.{Call}
 use Rattle.client.specs.declared.call.Call.TheVariants.{Enter, File, GiveUp}
 use Rattle.client.specs.declared.outcome.Outcome.{Outcome}
@@ -13,7 +15,11 @@ SendsNext before after (Some (Enter file)) = before.files.items ≡ file ∷ aft
 SendsNext before after (Some call) = ⊥
 
 -- a duty that it is handed is filed, and one that comes back given up, before the next file
-abbrev pub Prompted : Prompt → Outcome → Prompt → Option Call → Type 0
-Prompted before (Entered marks answer duty) after call = (after ≡ before) × (call ≡ Some (File duty))
-Prompted before (Returned returned) after call = (after ≡ before) × (call ≡ Some (GiveUp returned.duty))
-Prompted before outcome after call = SendsNext before after call
+abbrev pub GoesOn : Prompt → Outcome → Prompt → Option Call → Type 0
+GoesOn before (Entered marks answer duty) after call = (after ≡ before) × (call ≡ Some (File duty))
+GoesOn before (Returned returned) after call = (after ≡ before) × (call ≡ Some (GiveUp returned.duty))
+GoesOn before outcome after call = SendsNext before after call
+
+-- so it goes on, whatever the book holds
+abbrev pub Prompted : Prompt → List Meaning → Told → Prompt → Option Call → Type 0
+Prompted before row told after call = GoesOn before told.outcome after call

@@ -20,10 +20,11 @@ pub struct Prompt {
     pub files: VecDeque<Vec<u8>>,
 }
 
-impl Client for Prompt {
+impl<S: Schedule> Client<S> for Prompt {
     ghost answers = { Prompted };
 
-    fn next(&mut self, outcome: Outcome) -> Option<Call> {
+    // It does not read the book.
+    fn next(&mut self, outcome: Outcome, _book: &Book<S>) -> Option<Call> {
         match outcome {
             Outcome::Entered(_, _, duty) => Some(Call::File(duty)),
             Outcome::Returned(ReturnedDuty { fault: _, duty }) => Some(Call::GiveUp(duty)),

@@ -9,9 +9,10 @@ use crate::outcome::Outcome;
 use book::{Book, BookFault, Opening};
 use schedule::Schedule;
 
-// Opens the book, and makes the calls that the client chooses, each by what the one before it came to: so many, or until the client ends the run.
+// Opens the book, and makes the calls that the client chooses, each by what the one before it came to and what the book then tells: so many, or until
+// the client ends the run.
 // What the last call came to is answered where the client was not told it.
-pub fn run<S: Schedule, C: Client>(
+pub fn run<S: Schedule, C: Client<S>>(
     book: &mut Book<S>,
     opening: &Opening,
     client: &mut C,
@@ -26,9 +27,9 @@ pub fn run<S: Schedule, C: Client>(
     book.open(opening)?;
     let mut outcome = Outcome::Opened;
     for _ in 0..most {
-        let Some(call) = client.next(outcome) else {
-            // Does nothing; its contract gives the facts.
-            book.audit();
+        // Does nothing; its contract gives the facts of the book that the client is lent.
+        book.audit();
+        let Some(call) = client.next(outcome, book) else {
             return Ok(None);
         };
         outcome = act(book, call);

@@ -27,14 +27,14 @@ use Rattle.book.proofs.Changed.{length_changed}
 use Rattle.book.proofs.OfMonth.{of_month_before, of_month_added}
 use Rattle.book.proofs.Pending.{pends_amended}
 use Rattle.client.specs.Acting.{Acted, EntryActed, AmendmentActed, DutyActed}
+use Rattle.client.specs.Handing.{handed, sent}
 use Rattle.client.specs.Runs.{Exchange, first_told, Played, Talk, Ends, Run}
+use Rattle.client.specs.Telling.{Told, telling}
 use Rattle.client.specs.declared.call.Call.{Call}
 use Rattle.client.specs.declared.call.Call.TheVariants.{Enter, Amend, File, GiveUp}
 use Rattle.client.specs.declared.outcome.Outcome.{Outcome}
-use Rattle.client.specs.declared.outcome.Outcome.TheVariants.{Entered, Amended, Spent, Refused, Returned}
-use Rattle.clientcases.specs.Covering.{handed, sent, is_of, among, pending, Covered}
-use Rattle.clientcases.specs.Making.{MakesNone}
-use Rattle.clientcases.specs.declared.erratic.Erratic.{Erratic}
+use Rattle.client.specs.declared.outcome.Outcome.TheVariants.{Opened, Entered, Amended, Spent, Refused, Returned}
+use Rattle.clientcases.specs.Covering.{is_of, among, pending, Covered, MakesNone}
 use Rattle.clientcases.proofs.Covering.{spent_covers}
 
 -- as many records as months
@@ -143,45 +143,49 @@ abbrev pub untold_of : Option Outcome → List Duty
 untold_of None = []
 untold_of (Some told) = handed told
 
--- beside the pending months of another book, which is not called
-module _ (other : Option Account) where
+-- of a client that makes no duty of its own, beside the pending months of another book, which is not called
+module _ {C : Type 0} (answers : C → List Meaning → Told → C → Option Call → Type 0) (keeps : C → List Duty)
+    (makes_none : (before : C) (row : List Meaning) (told : Told) (after : C) (call : Option Call) → answers before row told after call → MakesNone (keeps before) told.outcome (keeps after) call)
+    (row : List Meaning) (other : Option Account) where
   -- the duties of the client and the one that it is told of are covered
-  abbrev Covers : Outcome → Erratic → Option Account → Type 0
-  Covers told client account = (book month : ℕ) → among book month (handed told) + among book month client.duties.items ≤ pending book month account + pending book month other
+  abbrev Covers : Told → C → Type 0
+  Covers told client = (book month : ℕ) → among book month (handed told.outcome) + among book month (keeps client) ≤ pending book month told.account + pending book month other
 
   -- one call after another
-  calls_cover : (row : List Meaning) (client last : Erratic) (before after : Option Account) (es : List Exchange) (final : Outcome) → Talk MakesNone client es last → Played row before es final after → Recorded before → Covers (first_told es final) client before → Covers final last after
-  calls_cover row client last before after [] final talk same recorded covers =
-      subst (Covers final last) (sym same) (subst (λ c. Covers final c before) talk covers)
-  calls_cover row client last before after (e ∷ es) final talk played recorded covers =
-      let next = call_conserves row before played.0 e.call (first_told es final) played.1 recorded in
-      let covered : Covers (first_told es final) talk.0 played.0 = λ book month. omega (arith, covers book month, talk.1 book month, next.covers book month) in
-      calls_cover row talk.0 last played.0 after es final talk.2 played.2 next.recorded covered
+  calls_cover : (client last : C) (es : List Exchange) (final : Told) → Talk answers row client es last → Played row es final → Recorded (first_told es final).account → Covers (first_told es final) client → Covers final last
+  calls_cover client last [] final talk played recorded covers = subst (Covers final) talk covers
+  calls_cover client last (e ∷ es) final talk played recorded covers =
+      let next = first_told es final in
+      let conserves = call_conserves row e.told.account next.account e.call next.outcome played.0 recorded in
+      let made = makes_none client row e.told talk.0 (Some e.call) talk.1 in
+      let covered : Covers next talk.0 = λ book month. omega (arith, covers book month, made book month, conserves.covers book month) in
+      calls_cover talk.0 last es final talk.2 played.1 conserves.recorded covered
 
-  ends_cover : (client last : Erratic) (final : Outcome) (made most : ℕ) (untold : Option Outcome) (after : Option Account) → Ends MakesNone client final last made most untold → Covers final client after
-      → (book month : ℕ) → among book month (untold_of untold) + among book month last.duties.items ≤ pending book month after + pending book month other
-  ends_cover client last final made most (Some told) after ends covers book month =
+  ends_cover : (client last : C) (final : Told) (made most : ℕ) (untold : Option Outcome) → Ends answers row client final last made most untold → Covers final client
+      → (book month : ℕ) → among book month (untold_of untold) + among book month (keeps last) ≤ pending book month final.account + pending book month other
+  ends_cover client last final made most (Some told) ends covers book month =
       let is_told = ends.0 in
       let is_last = ends.1 in
       rw (is_told, is_last) (covers book month)
-  ends_cover client last final made most None after ends covers book month =
-      omega (arith, covers book month, ends.0 book month)
+  ends_cover client last final made most None ends covers book month =
+      omega (arith, covers book month, makes_none client row final last None ends.0 book month)
 
   -- after the whole run
-  pub run_covers : {row : List Meaning} {g : Given} {most : ℕ} {first last : Erratic} {untold : Option Outcome} {before after : Option Account} → Run MakesNone row g most first last untold before after → Covered first.duties.items before other
-      → (book month : ℕ) → among book month (untold_of untold) + among book month last.duties.items ≤ pending book month after + pending book month other
-  run_covers {row} {g} {most} {first} {last} {untold} {before} {after} ran covered =
+  pub run_covers : {g : Given} {most : ℕ} {first last : C} {untold : Option Outcome} {before after : Option Account} → Run answers row g most first last untold before after → Covered (keeps first) before other
+      → (book month : ℕ) → among book month (untold_of untold) + among book month (keeps last) ≤ pending book month after + pending book month other
+  run_covers {g} {most} {first} {last} {untold} {before} {after} ran covered =
       let closed = closed_before (length row) before g ran.asked in
-      let covered_closed = subst (λ b. Covered first.duties.items b other) closed covered in
-      let at_first : Covers (first_told ran.exchanges ran.final) first (Some (newly_opened g)) =
-      subst (λ told. Covers told first (Some (newly_opened g))) (sym ran.begins) (λ book month. omega (arith, covered_closed book month)) in
-      let at_last = calls_cover row first ran.client (Some (newly_opened g)) after ran.exchanges ran.final ran.talk ran.played refl at_first in
-      ends_cover ran.client last ran.final (length ran.exchanges) most untold after ran.ends at_last
+      let covered_closed = subst (λ b. Covered (keeps first) b other) closed covered in
+      let newly : Covers (telling Opened (Some (newly_opened g))) first = λ book month. omega (arith, covered_closed book month) in
+      let at_first : Covers (first_told ran.exchanges ran.final) first = subst (λ told. Covers told first) (sym ran.begins) newly in
+      let recorded : Recorded (first_told ran.exchanges ran.final).account = subst (λ (told : Told). Recorded told.account) (sym ran.begins) refl in
+      let at_last = calls_cover first ran.client ran.exchanges ran.final ran.talk ran.played recorded at_first in
+      rw (ran.leaves) (ends_cover ran.client last ran.final (length ran.exchanges) most untold ran.ends at_last)
 
   -- the duty that the client is not told of, with the client's own and alone
-  pub untold_covered : {row : List Meaning} {g : Given} {most : ℕ} {first last : Erratic} {untold : Option Outcome} {before after : Option Account} {d : Duty} → Run MakesNone row g most first last untold before after → Covered first.duties.items before other
-      → untold_of untold ≡ d ∷ [] → Covered (d ∷ last.duties.items) after other × Covered (d ∷ []) after other
+  pub untold_covered : {g : Given} {most : ℕ} {first last : C} {untold : Option Outcome} {before after : Option Account} {d : Duty} → Run answers row g most first last untold before after → Covered (keeps first) before other
+      → untold_of untold ≡ d ∷ [] → Covered (d ∷ keeps last) after other × Covered (d ∷ []) after other
   untold_covered {last = last} {after = after} {d = d} ran covered is =
-      let covers : (book month : ℕ) → among book month (d ∷ []) + among book month last.duties.items ≤ pending book month after + pending book month other = λ book month.
-      subst (λ ds. among book month ds + among book month last.duties.items ≤ pending book month after + pending book month other) is (run_covers ran covered book month) in
-      (λ book month. omega (arith, covers book month, sum_by-cons (is_of book month) d last.duties.items), λ book month. omega (arith, covers book month))
+      let covers : (book month : ℕ) → among book month (d ∷ []) + among book month (keeps last) ≤ pending book month after + pending book month other = λ book month.
+      subst (λ ds. among book month ds + among book month (keeps last) ≤ pending book month after + pending book month other) is (run_covers ran covered book month) in
+      (λ book month. omega (arith, covers book month, sum_by-cons (is_of book month) d (keeps last)), λ book month. omega (arith, covers book month))

@@ -5,26 +5,14 @@ use Rattle.book.specs.Account.{Account}
 use Rattle.book.specs.Duties.{pends}
 use Rattle.book.specs.Places.{of_month}
 use Rattle.book.specs.declared.duty.Duty.{Duty}
+use Rattle.client.specs.Handing.{handed, sent}
 use Rattle.client.specs.declared.call.Call.{Call}
-use Rattle.client.specs.declared.call.Call.TheVariants.{File, GiveUp}
 use Rattle.client.specs.declared.outcome.Outcome.{Outcome}
-use Rattle.client.specs.declared.outcome.Outcome.TheVariants.{Entered, Returned}
 
 -- a duty or none
 abbrev pub optional : Option Duty → List Duty
 optional None = []
 optional (Some d) = d ∷ []
-
--- the duty that comes with what is told, and the one that goes with a call
-abbrev pub handed : Outcome → List Duty
-handed (Entered marks answer d) = d ∷ []
-handed (Returned returned) = returned.duty ∷ []
-handed outcome = []
-
-abbrev pub sent : Option Call → List Duty
-sent (Some (File d)) = d ∷ []
-sent (Some (GiveUp d)) = d ∷ []
-sent call = []
 
 -- 1 where the duty is of this month of a book of this number
 abbrev pub is_of : ℕ → ℕ → Duty → ℕ
@@ -42,3 +30,7 @@ pending book month (Some a) = if book == a.number && pends (of_month a.records m
 -- of each month there are no more duties than books in which it is pending
 abbrev pub Covered : List Duty → Option Account → Option Account → Type 0
 Covered ds one other = (book month : ℕ) → among book month ds ≤ pending book month one + pending book month other
+
+-- what a client sends and then keeps is no more than what it kept and was handed
+abbrev pub MakesNone : List Duty → Outcome → List Duty → Option Call → Type 0
+MakesNone before outcome after call = (book month : ℕ) → among book month (sent call) + among book month after ≤ among book month (handed outcome) + among book month before

@@ -1,2 +1,3 @@
 pub mod Covering
-pub mod Making
+pub mod Keeping
+pub mod Sparing

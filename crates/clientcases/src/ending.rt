@@ -3,10 +3,9 @@ ghost use Rattle.std.specs.Prelude.{[], ◌∷◌, List};
 ghost use Rattle.book.specs.declared.duty.Duty.{Duty};
 ghost use Rattle.clientcases.specs.Covering.{Covered};
 
-use crate::cases::Case;
-use crate::erratic::Erratic;
+use crate::keeper::Keeper;
 use crate::told::{Told, parted};
-use book::{Book, BookFault, Duty, ReturnedDuty};
+use book::{Book, BookFault, Duty, Opening, ReturnedDuty};
 use client::run;
 use schedule::FourCharges;
 
@@ -35,17 +34,17 @@ pub(crate) fn let_go(duty: Duty, one: &mut Book<FourCharges>, other: &mut Book<F
 }
 
 // Runs the client on the book, and tells how that ended. A duty that the client was not told of is given up.
-pub(crate) fn run_through(
-    case: &Case,
-    number: u64,
+pub(crate) fn run_through<C: Keeper>(
+    opening: &Opening,
+    most: usize,
     book: &mut Book<FourCharges>,
     other: &mut Book<FourCharges>,
-    client: &mut Erratic,
+    client: &mut C,
 ) -> Ending
-    requires { Covered client.old.duties.items book.old.account other.old.account }
-    ensures { Covered client.new.duties.items book.new.account other.new.account }
+    requires { Covered (C.keeps client.old) book.old.account other.old.account }
+    ensures { Covered (C.keeps client.new) book.new.account other.new.account }
 {
-    match run(book, &case.opening(number), client, case.most) {
+    match run(book, opening, client, most) {
         Err(fault) => Ending::NotOpened(fault),
         Ok(None) => Ending::ByTheClient,
         Ok(Some(untold)) => {

@@ -1,9 +1,10 @@
 // A client that does what its plan says.
 ghost use Rattle.std.specs.Prelude.{◌≡◌, ℕ, ◌+◌, ◌≤◌, [], length};
-ghost use Rattle.clientcases.specs.Covering.{optional, sent, among, Covered};
-ghost use Rattle.clientcases.specs.Making.{MakesNone};
+ghost use Rattle.client.specs.Handing.{sent};
+ghost use Rattle.clientcases.specs.Covering.{optional, among, Covered, MakesNone};
 
 use crate::ending::let_go;
+use crate::keeper::Keeper;
 use crate::plan::Plan;
 use crate::told::{Told, parted};
 use book::{Book, Duty};
@@ -20,11 +21,12 @@ pub(crate) struct Erratic {
     lacks: bool,
 }
 
-impl Client for Erratic {
-    // It makes no duty of its own.
-    ghost answers = { MakesNone };
+impl Client<FourCharges> for Erratic {
+    // Nothing is said of which calls it picks.
+    ghost answers = { λ before row told after call. MakesNone before.duties.items told.outcome after.duties.items call };
 
-    fn next(&mut self, outcome: Outcome) -> Option<Call> {
+    // It does not read the book.
+    fn next(&mut self, outcome: Outcome, _book: &Book<FourCharges>) -> Option<Call> {
         let (told, duty) = parted(outcome);
         self.plan.note(&told);
         if self.told.push(told).is_err() {
@@ -38,6 +40,12 @@ impl Client for Erratic {
         }
         self.choose()
     }
+}
+
+impl Keeper for Erratic {
+    ghost keeps = { λ client. client.duties.items };
+
+    ghost makes_none = { λ before row told after call answered. answered };
 }
 
 impl Erratic {

@@ -1,6 +1,6 @@
 // What a client does next, by chance, and the same each time that it is played.
 ghost use Rattle.std.specs.Prelude.{◌≡◌, ◌<◌, [], Some, IfOk};
-ghost use Rattle.clientcases.specs.Covering.{sent};
+ghost use Rattle.client.specs.Handing.{sent};
 
 use crate::files::{Figures, Flaw, file_of};
 use crate::told::Told;

@@ -1,6 +1,7 @@
 // What a client is told, without the duty that comes with it.
 ghost use Rattle.std.specs.Prelude.{◌≡◌};
-ghost use Rattle.clientcases.specs.Covering.{handed, optional};
+ghost use Rattle.client.specs.Handing.{handed};
+ghost use Rattle.clientcases.specs.Covering.{optional};
 
 use book::{Answer, BookFault, Duty, Marks, ReturnedDuty};
 use client::Outcome;

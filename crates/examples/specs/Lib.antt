@@ -1,1 +1,2 @@
 pub mod FlatFees
+pub mod GrowingFees

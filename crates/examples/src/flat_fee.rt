@@ -40,6 +40,8 @@ impl Mechanism for FlatFee {
 }
 
 impl Priced for FlatFee {
+    ghost price = { λ s _. s.rate };
+
     ghost priced = { λ s. flat_fee_priced s.rate s.limit };
 
     #[tactic(auto, using(charges::specs::Last::last_answered))]

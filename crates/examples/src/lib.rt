@@ -6,6 +6,8 @@ mod flat_fee;
 #[cfg(test)]
 mod frames;
 #[cfg(test)]
+mod growing_fee;
+#[cfg(test)]
 mod of_books;
 #[cfg(test)]
 mod of_charges;
@@ -14,7 +16,11 @@ mod of_months;
 #[cfg(test)]
 mod of_runs;
 #[cfg(test)]
+mod of_schedules;
+#[cfg(test)]
 mod opened;
+#[cfg(test)]
+mod pair;
 #[cfg(test)]
 mod sample;
 #[cfg(test)]

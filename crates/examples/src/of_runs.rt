@@ -4,7 +4,7 @@ use crate::opened::file;
 use book::Mark;
 use bounded::UpTo;
 use fields::{Layer, Refusal, ShortBuffer};
-use printed::{Call, Frames, Line, NoFrame, Outcome, closed_book, work, write_run};
+use printed::{Call, Frames, Line, NoFrame, closed_book, work, write_run};
 use settlement::{Answer, Closing, Rate, Standing};
 use std::process::Abort;
 use std::test::Fail;
@@ -153,7 +153,8 @@ fn amendment() -> [u8; 170] {
     frame
 }
 
-// The lines of a caller that works frame by frame. A month is pending until the duty that comes with its line is filed.
+// The lines of a caller that works frame by frame, and takes room for each line first. A month is pending until the duty is filed that its line,
+// once it is told, comes with.
 #[test]
 fn frame_by_frame(rt: HostRuntime) -> Result<(), Fail> {
     let stream = [OPENING.as_slice(), &ENTRY, &amendment()].concat(rt.alloc())?;
@@ -164,16 +165,19 @@ fn frame_by_frame(rt: HostRuntime) -> Result<(), Fail> {
         let Some(frame) = frames.read()? else {
             return Err(Fail::new("no frame"));
         };
-        let Outcome { line, duty } = work(&mut book, &frame);
-        if let Some(duty) = duty {
-            assert_eq!(rt; duty.book(), 7);
-            assert_eq!(rt; duty.month(), 1);
-            assert!(rt; book.mark(1) == Some(Mark::Pending));
-            file(&rt, &mut book, duty);
+        lines.try_reserve(512)?;
+        match work(&mut book, &frame).tell(&mut lines) {
+            Ok(Some(duty)) => {
+                assert_eq!(rt; duty.book(), 7);
+                assert_eq!(rt; duty.month(), 1);
+                assert!(rt; book.mark(1) == Some(Mark::Pending));
+                assert!(rt; lines.as_slice() == OPENED_AND_ENTERED.as_bytes());
+                file(&rt, &mut book, duty);
+            }
+            Ok(None) => {}
+            // No line is longer.
+            Err(_outcome) => unreachable(),
         }
-        let mut buffer = [0; 1024];
-        let length = line.write(&mut buffer)?;
-        lines.extend_from_slice(&buffer[..length])?;
     }
     assert!(rt; book.mark(1) == Some(Mark::Filed));
     let amended = format!(in rt.alloc();
@@ -202,39 +206,59 @@ fn run_goes_on(rt: HostRuntime) -> Result<(), Fail> {
     Ok(())
 }
 
-// Tens of thousands of frames, in 8.5 MB.
+const AMENDED: &str = "A 1 49833 10000 4649 3300 -99905398 7294094602 steady\n";
+
+const AMENDED_BACK: &str = "A 1 49791 10000 4645 3300 -104757845 7289242155 steady\n";
+
+const STANDS_ALREADY: &str = "E refused 12 book 1\n";
+
+// More output than any table of the gate has: 60,003 lines, in 2.6 MB, of a stream of 10.2 MB.
 #[test]
-fn long_stream(rt: HostRuntime) -> Result<(), Fail> {
-    let mut stream = Vec::from_slice(rt.alloc(), &OPENING)?;
-    for _ in 0..50_000 {
-        stream.extend_from_slice(&ENTRY)?;
+fn long_run(rt: HostRuntime) -> Result<(), Fail> {
+    let mut back = ENTRY;
+    back[0] = 17;
+    let round = [amendment().as_slice(), &back, &ENTRY].concat(rt.alloc())?;
+    let mut stream = [OPENING.as_slice(), &ENTRY].concat(rt.alloc())?;
+    for _ in 0..20_000 {
+        stream.extend_from_slice(round.as_slice())?;
     }
+    stream.push(10)?;
     let mut book = closed_book(rt.alloc())?;
     let mut output = Vec::new(rt.alloc());
     write_run(&mut book, stream.as_slice(), &mut output)?;
     let output = output.as_slice();
+    assert_eq!(rt; output.len(), 2_580_070);
     assert!(rt; output.starts_with(OPENED_AND_ENTERED.as_bytes()));
-    // The month is entered once, and refused from then on.
-    let refused = output[OPENED_AND_ENTERED.len()..].chunks(20);
-    assert_eq!(rt; refused.len(), 49_999);
-    for line in refused {
-        assert!(rt; line == b"E refused 12 book 1\n".as_slice());
+    assert!(rt; output.ends_with(b"X 10200261\n"));
+    let lines = format!(in rt.alloc(); "{AMENDED}{AMENDED_BACK}{STANDS_ALREADY}")?;
+    let rounds = output[OPENED_AND_ENTERED.len()..].chunks_exact(lines.len());
+    assert_eq!(rt; rounds.len(), 20_000);
+    for told in rounds {
+        assert!(rt; told == lines.as_str().as_bytes());
     }
     Ok(())
 }
 
-// All lines stand, or whole ones and the first: with `rt try --test --fail-alloc N` the Nth allocation fails, and a book has the first three.
+// The lines of all frames stand, or those of the first that were worked, and the book has their months and no other: with `rt try --test --fail-alloc N`
+// the Nth allocation fails, and a book has the first three.
 #[test]
 fn lines_before_memory_lacks(rt: HostRuntime) -> Result<(), Fail> {
-    let stream = [[16, 0, 0]; 50];
+    let mut stream = [0; 91 + 36 * 170];
+    stream[..91].copy_from_slice(&OPENING);
+    for (month, frame) in (1..).zip(stream[91..].chunks_exact_mut(170)) {
+        frame.copy_from_slice(&ENTRY);
+        frame[7] = month;
+    }
     let Ok(mut book) = closed_book(rt.alloc()) else {
         return Ok(());
     };
     let mut output = Vec::new(rt.alloc());
-    let ran = write_run(&mut book, stream.as_flattened(), &mut output);
-    for line in output.as_slice().chunks(19) {
-        assert!(rt; line == b"E refused 1 file 0\n".as_slice());
+    let ran = write_run(&mut book, &stream, &mut output);
+    let lines = output.as_slice().split(|byte| *byte == b'\n').count() - 1;
+    assert_eq!(rt; lines == 37, ran.is_ok());
+    for month in 1..37 {
+        let mark = (usize::from(month) < lines).then_some(Mark::Filed);
+        assert!(rt; book.mark(month) == mark);
     }
-    assert_eq!(rt; output.len() == 50 * 19, ran.is_ok());
     Ok(())
 }

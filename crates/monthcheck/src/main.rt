@@ -2,15 +2,8 @@
 // refused.
 #![tactic(auto)]
 
-mod answers;
-mod cap;
-mod check;
-mod report;
-
-use crate::cap::cap_of;
-use crate::check::check;
+use monthpage::{cap_of, print_page};
 use std::env;
-use std::io::{Read, Write};
 use std::process::ExitCode;
 
 // Ends with status 1 where something is refused or not fit. It does so too, and says it on standard error, where the argument is no such
@@ -18,13 +11,5 @@ use std::process::ExitCode;
 fn main(rt: HostRuntime) -> anyhow::Result<ExitCode> {
     let words = env::args(&rt)?.skip(1).collect::<Vec<String>>(rt.alloc())?;
     let cap = cap_of(words.as_slice())?;
-    let mut file = Vec::new(rt.alloc());
-    rt.stdin().read_to_end(&mut file)?;
-    let checked = check(rt.alloc(), cap, file.as_slice())?;
-    rt.stdout().write_all(checked.page.as_bytes())?;
-    if checked.good {
-        Ok(ExitCode::SUCCESS)
-    } else {
-        Ok(ExitCode::FAILURE)
-    }
+    print_page(rt.alloc(), cap, &mut rt.stdin(), &mut rt.stdout())
 }

@@ -1,5 +1,5 @@
 -- A run has one output.
-use Rattle.std.proofs.Common.{◌≡◌, ℕ, ◌++◌, List, [], ◌∷◌, length, Option, Some, None, Result, Ok, Err, MatchResult, refl, ap, sym, ◌∙◌, subst, ◌⊎◌, inl, inr, arith, append_assoc, append-nil}
+use Rattle.std.proofs.Common.{◌≡◌, ℕ, ◌++◌, List, [], ◌∷◌, length, Option, Some, None, Result, Ok, Err, MatchResult, refl, ap, sym, ◌∙◌, subst, ◌⊎◌, inl, inr, arith, append_assoc}
 use Rattle.std.specs.List.{All, flat_map}
 use Rattle.std.proofs.lemmas.List.Elements.{All-head, All-tail}
 use Rattle.book.specs.Account.{Account}
@@ -29,13 +29,12 @@ use Rattle.settlement.specs.declared.record.Mark.TheVariants.{Filed}
 use Rattle.printed.specs.Frames.{Framed, WellFormed, frame_bytes, BeginsNoFrame}
 use Rattle.printed.specs.Frames.Framed.{Opens, Enters, Amends}
 use Rattle.printed.specs.Lines.{line_bytes, answer_fields, letter, spaced}
-use Rattle.printed.specs.Runs.{State, EntersBy, AmendsBy, RefusesPosting, Works, Exchange, WorksAll, lines_of, Ends, Printed, NextLine, LacksRoom}
+use Rattle.printed.specs.Runs.{State, EntersBy, AmendsBy, RefusesPosting, Works, Exchange, WorksAll, lines_of, Ends, Printed, LacksRoom}
 use Rattle.printed.specs.declared.call.Call.{Call}
 use Rattle.printed.specs.declared.call.Call.TheVariants as call
 use Rattle.printed.specs.declared.line.Line.{Line}
 use Rattle.printed.specs.declared.line.Line.TheVariants as line
 use Rattle.printed.proofs.Prefixes.{frame_same, opening_long}
-use Rattle.printed.proofs.Runs.{lines_also}
 
 some_same : {F : Type 0} {x y : F} → Some x ≡ Some y → x ≡ y
 some_same e = cc
@@ -208,20 +207,13 @@ lines_begin before (x ∷ xs) (y ∷ ys) r s a b f g n e p q =
 
 -- where a run broke off, its output is a beginning of that one
 module _ (before : State) (input : List ℕ) (room : ℕ) (old new out : List ℕ) (a b : State) (broken : LacksRoom before input room old new a) (whole : Printed before input old out b) where
-  begins_by : (more : List ℕ) → lines_of broken.exchanges ≡ lines_of broken.printed ++ more → (later : List ℕ) × (out ≡ new ++ later)
-  begins_by more lines =
-      let begin = lines_begin before broken.exchanges whole.exchanges broken.rest whole.rest a b broken.worked.formed whole.worked.formed (no_frame_next input whole.rest whole.last whole.ends) (sym broken.worked.split ∙ whole.worked.split) broken.worked.works whole.worked.works in
-      let later : List ℕ = more ++ (begin.0 ++ whole.last) in
-      let same : lines_of whole.exchanges ++ whole.last ≡ lines_of broken.printed ++ later =
-      ap (λ l. l ++ whole.last) (begin.1 ∙ ap (λ l. l ++ begin.0) lines) ∙ append_assoc (lines_of broken.printed ++ more) begin.0 whole.last ∙ append_assoc (lines_of broken.printed) more (begin.0 ++ whole.last) in
-      (later, whole.output ∙ ap (λ l. old ++ l) same ∙ sym (append_assoc old (lines_of broken.printed) later) ∙ ap (λ l. l ++ later) (sym broken.output))
-
-  begins_with : NextLine input broken.exchanges broken.rest broken.printed broken.unprinted → (later : List ℕ) × (out ≡ new ++ later)
-  begins_with (inl next) = begins_by (line_bytes broken.unprinted) (ap lines_of next.1 ∙ lines_also broken.printed next.0 broken.unprinted)
-  begins_with (inr next) = begins_by [] (ap lines_of next.0 ∙ sym (append-nil (lines_of broken.printed)))
-
   begins_whole : (later : List ℕ) × (out ≡ new ++ later)
-  begins_whole = begins_with broken.next
+  begins_whole =
+      let begin = lines_begin before broken.exchanges whole.exchanges broken.rest whole.rest a b broken.worked.formed whole.worked.formed (no_frame_next input whole.rest whole.last whole.ends) (sym broken.worked.split ∙ whole.worked.split) broken.worked.works whole.worked.works in
+      let later : List ℕ = begin.0 ++ whole.last in
+      let same : lines_of whole.exchanges ++ whole.last ≡ lines_of broken.exchanges ++ later =
+      ap (λ l. l ++ whole.last) begin.1 ∙ append_assoc (lines_of broken.exchanges) begin.0 whole.last in
+      (later, whole.output ∙ ap (λ l. old ++ l) same ∙ sym (append_assoc old (lines_of broken.exchanges) later) ∙ ap (λ l. l ++ later) (sym broken.output))
 
 -- the same of a run that may break off
 pub once_where_printed : {E : Type 0} (before : State) (input : List ℕ) (room : ℕ) (old new : List ℕ) (a : State) (ran : Result Unit E) → MatchResult ran (λ _. Printed before input old new a) (λ _. LacksRoom before input room old new a)

@@ -7,7 +7,7 @@ use Rattle.book.specs.Account.{marks_told}
 use Rattle.printed.specs.Frames.{Framed, framed, WellFormed, frame_bytes, BeginsNoFrame, AtEnd, FrameAt, NoFrameAt}
 use Rattle.printed.specs.declared.frame.Frame.{Frame}
 use Rattle.printed.specs.Journals.{Journaled, CarriesJournal, CarriesJournalAll, PrintedWith, LacksRoomWith}
-use Rattle.printed.specs.Lines.{line_bytes}
+use Rattle.printed.specs.Lines.{line_bytes, longest}
 use Rattle.printed.specs.Runs.{State, Works, Exchange, WorksAll, Worked, lines_of, Ends}
 use Rattle.printed.proofs.Journals.{carries_one_more}
 use Rattle.printed.specs.declared.line.Line.{Line}
@@ -59,21 +59,20 @@ module _ {before : State} {input : List ℕ} {old new : List ℕ} {p : ℕ} {bet
         output = ap (λ l. l ++ line_bytes told) so_far.output ∙ append_assoc old (lines_of so_far.exchanges) (line_bytes told) ∙ ap (λ l. old ++ l) (sym (lines_also so_far.exchanges frame told));
       }
 
-      -- there was no room for the frame's line
-      pub line_does_not_fit : (room : ℕ) → room < length new + length (line_bytes told) → LacksRoomWith CarriesJournalAll before input room old new after
-      line_does_not_fit room short = (
-        record {
-          exchanges = also so_far.exchanges frame told;
-          rest = drop q input;
-          worked = worked_also;
-          printed = so_far.exchanges;
-          unprinted = told;
-          next = inl (frame, refl);
-          output = so_far.output;
-          short = short;
-        },
-        carries_also,
-      )
+    -- the frame has not been worked, for want of room for its line
+    pub no_room_for_a_line : {room : ℕ} → room < length new + longest → LacksRoomWith CarriesJournalAll before input room old new between
+    no_room_for_a_line short = (
+      record {
+        exchanges = so_far.exchanges;
+        rest = drop p input;
+        worked = so_far.worked;
+        output = so_far.output;
+        asked = longest;
+        next = inl (frame, drop q input, stands.formed, stands.split, refl);
+        short = short;
+      },
+      so_far.carries,
+    )
 
   pub at_end : {q : ℕ} → AtEnd input p q → PrintedWith CarriesJournalAll before input old new between
   at_end end = (
@@ -109,26 +108,27 @@ module _ {before : State} {input : List ℕ} {old new : List ℕ} {p : ℕ} {bet
       so_far.carries,
     )
 
-    last_line_does_not_fit : (room : ℕ) → room < length new + length (line_bytes (line.NoFrame e.at)) → LacksRoomWith CarriesJournalAll before input room old new between
-    last_line_does_not_fit room short = (
+    no_room_for_the_last_line : (room : ℕ) → room < length new + length (line_bytes (line.NoFrame e.at)) → LacksRoomWith CarriesJournalAll before input room old new between
+    no_room_for_the_last_line room short = (
       record {
         exchanges = so_far.exchanges;
         rest = drop p input;
         worked = so_far.worked;
-        printed = so_far.exchanges;
-        unprinted = line.NoFrame e.at;
-        next = inr (refl, none.none, ap line.NoFrame here);
         output = so_far.output;
+        asked = length (line_bytes (line.NoFrame e.at));
+        next = inr (none.none, ap (λ p. length (line_bytes (line.NoFrame p))) here);
         short = short;
       },
       so_far.carries,
     )
 
-    -- the last line was appended, or there was no room for it
-    pub end_of_run : {E : Type 0} {last : List ℕ} (printed : Result Unit E) (room capacity : ℕ) → room ≤ capacity → last ≡ (if is_ok printed then new ++ line_bytes (line.NoFrame e.at) else new) → OnErr printed (capacity < length new + length (line_bytes (line.NoFrame e.at)))
-        → MatchResult printed (λ _. PrintedWith CarriesJournalAll before input old last between) (λ _. LacksRoomWith CarriesJournalAll before input room old last between)
-    end_of_run (Ok u) room capacity most is full = subst (λ (l : List ℕ). PrintedWith CarriesJournalAll before input old l between) (sym is) at_no_frame
-    end_of_run (Err x) room capacity most is full = subst (λ (l : List ℕ). LacksRoomWith CarriesJournalAll before input room old l between) (sym is) (last_line_does_not_fit room (omega (arith, most, full)))
+    -- the last line was appended, or there is no room for it
+    pub end_of_run : {E : Type 0} {last : List ℕ} (room : ℕ) (ended : Result Unit E) → last ≡ (if is_ok ended then new ++ line_bytes (line.NoFrame e.at) else new) → OnErr ended (room < length last + length (line_bytes (line.NoFrame e.at)))
+        → MatchResult ended (λ _. PrintedWith CarriesJournalAll before input old last between) (λ _. LacksRoomWith CarriesJournalAll before input room old last between)
+    end_of_run room (Ok u) is full = subst (λ (l : List ℕ). PrintedWith CarriesJournalAll before input old l between) (sym is) at_no_frame
+    end_of_run room (Err x) is full =
+        let short = subst (λ (l : List ℕ). room < length l + length (line_bytes (line.NoFrame e.at))) is full in
+        subst (λ (l : List ℕ). LacksRoomWith CarriesJournalAll before input room old l between) (sym is) (no_room_for_the_last_line room short)
 
 -- what the reader found, in the input that it reads
 pub found_frame : {s input : List ℕ} {p q : ℕ} {next : Option Frame} {f : Frame} → s ≡ input → MatchOption next (AtEnd s p q) (λ x. FrameAt s p q (framed x)) → next ≡ Some f → FrameAt input p q (framed f)

@@ -48,6 +48,10 @@ line_bytes l = letter l ++ (spaced (told_fields l) ++ 10 ∷ [])
 abbrev pub answer_line : Call → ℕ → Answered → List ℕ
 answer_line call month a = call_letter call ++ (spaced (answer_fields month a) ++ 10 ∷ [])
 
+-- no line is longer, whatever it tells
+abbrev pub longest : ℕ
+longest = 512
+
 -- one line: byte 10 stands at the end and nowhere else
 pub record OneLine (bytes : List ℕ) : Type 0 where
   pub some : 0 < length bytes

@@ -24,10 +24,11 @@ use Rattle.settlement.specs.declared.answer.Answer.{Answer}
 use Rattle.settlement.specs.declared.record.Mark.TheVariants.{Filed}
 use Rattle.printed.specs.Frames.{Framed, WellFormed, frame_bytes, BeginsNoFrame}
 use Rattle.printed.specs.Frames.Framed.{Opens, Enters, Amends}
-use Rattle.printed.specs.Lines.{line_bytes}
+use Rattle.printed.specs.Lines.{line_bytes, longest}
 use Rattle.printed.specs.declared.call.Call.TheVariants as call
 use Rattle.printed.specs.declared.line.Line.{Line}
 use Rattle.printed.specs.declared.line.Line.TheVariants as line
+use Rattle.printed.specs.declared.outcome.Outcome.{Outcome}
 
 -- a book over the four charges: what they are, by the cap of the loss charge, and what the book holds where it is open
 pub record State : Type 0 where
@@ -76,7 +77,7 @@ pub record AmendsBy (before : State) (file : List ℕ) (month : ℕ) (answer : A
   pub amends : Amended before.charges before.account after.account file (answered answer) month
   pub charges : after.charges ≡ before.charges
 
--- what a frame makes of the book, and the line that tells it
+-- what a frame makes of the book, and the line that tells it; the month of an accepted entry is filed
 abbrev pub Works : State → Framed → Line → State → Type 0
 Works before (Opens cap g) told after =
     ((told ≡ line.Opened g.number) × OpensBy before cap g after)
@@ -87,6 +88,13 @@ Works before (Enters file) told after =
 Works before (Amends file) told after =
     ((month : ℕ) × (answer : Answer) × (told ≡ line.Amended month answer) × AmendsBy before file month answer after)
     ⊎ ((fault : BookFault) × (told ≡ line.Refused call.Amendment (book_refusal fault)) × RefusesPosting Amendment before file fault after)
+
+-- what came of a frame: the line that tells it, and the duty that comes with that
+abbrev pub line_of : Outcome → Line
+line_of o = o.line
+
+abbrev pub duty_of : Outcome → Option Duty
+duty_of o = o.duty
 
 -- with the line of an entry comes the duty to file its month, with the number of the book; with no other line comes one
 abbrev pub handed_out : Line → Option Account → Option Duty
@@ -136,19 +144,19 @@ pub record Printed (before : State) (input old new : List ℕ) (after : State) :
   pub ends : Ends input rest last
   pub output : new ≡ old ++ (lines_of exchanges ++ last)
 
--- the line is next behind those of the printed exchanges: it tells of the last frame that was worked, or that no frame begins
-abbrev pub NextLine : List ℕ → List Exchange → List ℕ → List Exchange → Line → Type 0
-NextLine input worked rest printed next =
-    ((frame : Framed) × (worked ≡ printed ++ (record { frame = frame; told = next }) ∷ []))
-    ⊎ ((worked ≡ printed) × BeginsNoFrame rest × (next ≡ no_frame input rest))
+-- what is next in the input, and the room that is asked for the line of it: a frame, which has not been worked, and room for any line; or no frame, and
+-- room for the line that tells so
+abbrev pub NextAsks : List ℕ → List ℕ → ℕ → Type 0
+NextAsks input rest asked =
+    ((frame : Framed) × (later : List ℕ) × WellFormed frame × (rest ≡ frame_bytes frame ++ later) × (asked ≡ longest))
+    ⊎ (BeginsNoFrame rest × (asked ≡ length (line_bytes (no_frame input rest))))
 
--- frames were worked, the output has the lines of the first of them, and the room that it had would not do for these and the next line
+-- frames were worked, the output has the lines of exactly these, and the room that it now has would not do for the next line
 pub record LacksRoom (before : State) (input : List ℕ) (room : ℕ) (old new : List ℕ) (after : State) : Type 0 where
   pub exchanges : List Exchange
   pub rest : List ℕ
   pub worked : Worked before input exchanges rest after
-  pub printed : List Exchange
-  pub unprinted : Line
-  pub next : NextLine input exchanges rest printed unprinted
-  pub output : new ≡ old ++ lines_of printed
-  pub short : room < length new + length (line_bytes unprinted)
+  pub output : new ≡ old ++ lines_of exchanges
+  pub asked : ℕ
+  pub next : NextAsks input rest asked
+  pub short : room < length new + asked

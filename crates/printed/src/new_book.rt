@@ -1,5 +1,5 @@
 // A run from its beginning.
-ghost use Rattle.std.specs.Prelude.{◌≡◌, ℕ, List, ◌++◌, None, vec_capacity, IfOk, MatchResult};
+ghost use Rattle.std.specs.Prelude.{◌≡◌, ℕ, ◌≤◌, List, ◌++◌, None, vec_capacity, IfOk, MatchResult};
 ghost use Rattle.book.specs.Reading.{NonePending};
 ghost use Rattle.printed.specs.Journals.{LacksRoomWith, PrintedWith, RunFacts};
 ghost use Rattle.printed.specs.Runs.{State, closed, state_of, Printed};
@@ -45,7 +45,8 @@ impl NewBook {
         // same holds of its exchanges.
         ensures cases { MatchResult result
             (λ book. PrintedWith (RunFacts None) closed input.now output.old.items output.new.items (state_of book))
-            (λ _. (after : State) × LacksRoomWith (RunFacts None) closed input.now (vec_capacity output.old) output.old.items output.new.items after) }
+            (λ _. (after : State) × LacksRoomWith (RunFacts None) closed input.now (vec_capacity output.new) output.old.items output.new.items after) }
+        ensures capacity { vec_capacity output.old ≤ vec_capacity output.new }
         // No other output is that of a run, and no other state is left by it. Where memory lacks, the output is a beginning of that one.
         ensures once { (out : List ℕ) (after : State) → Printed closed input.now output.old.items out after
             → MatchResult result (λ book. (output.new.items ≡ out) × (state_of book ≡ after)) (λ _. (later : List ℕ) × (out ≡ output.new.items ++ later)) }

@@ -1,9 +1,50 @@
 // What came of a frame.
-use crate::line::Line;
-use book::Duty;
+ghost use Rattle.std.specs.Prelude.{◌≡◌, ◌+◌, ◌<◌, ◌≤◌, ◌++◌, Some, None, length, vec_capacity, IsOk, OnErr, MatchResult};
+ghost use Rattle.book.specs.Duties.{month_of};
+ghost use Rattle.printed.specs.Lines.{line_bytes, longest};
+ghost use Rattle.printed.specs.Runs.{line_of, duty_of};
 
-// The line that tells it, and of an accepted entry the duty to file its month.
+use crate::line::Line;
+use book::{Answer, Duty};
+
+// The line that tells it, and of an accepted entry the duty to file its month. Both are private to this module, and `tell` is the one way out: a month
+// is filed by its duty, so none is filed whose line has not been told. Since it may hold a duty, it is neither `Drop`, `Clone` nor `Copy`.
 pub struct Outcome {
-    pub line: Line,
-    pub duty: Option<Duty>,
+    line: Line,
+    duty: Option<Duty>,
+}
+
+impl Outcome {
+    // Of any frame but an accepted entry.
+    pub(crate) fn told(line: Line) -> Outcome
+        ensures { result ≡ record { line = line; duty = None } }
+    {
+        Outcome { line, duty: None }
+    }
+
+    pub(crate) fn entered(duty: Duty, answer: Answer) -> Outcome
+        ensures { result ≡ record { line = Line.Entered (month_of duty) answer; duty = Some duty } }
+    {
+        Outcome {
+            line: Line::Entered(duty.month(), answer),
+            duty: Some(duty),
+        }
+    }
+
+    // Appends the line to the output, and then answers the duty. Where memory lacks, the output has what it had, and the outcome comes back.
+    pub fn tell(self, output: &mut Vec<u8>) -> Result<Option<Duty>, Outcome>
+        ensures cases { MatchResult result
+            (λ duty. (output.new.items ≡ output.old.items ++ line_bytes (line_of self)) × (duty ≡ duty_of self))
+            (λ outcome. (output.new.items ≡ output.old.items) × (outcome ≡ self)) }
+        ensures capacity { vec_capacity output.old ≤ vec_capacity output.new }
+        // It fails only where there is no room for the line, so not where there was room for any.
+        ensures full { OnErr result (vec_capacity output.new < length output.new.items + length (line_bytes (line_of self))) }
+        ensures succeeds { length output.old.items + longest ≤ vec_capacity output.old → IsOk result }
+    {
+        let Outcome { line, duty } = self;
+        match line.append_to(output) {
+            Ok(()) => Ok(duty),
+            Err(_) => Err(Outcome { line, duty }),
+        }
+    }
 }

@@ -1,8 +1,13 @@
 -- A schedule means a row of mechanisms, numbered from 0.
-use Rattle.std.specs.Prelude.{ℕ, min, false, List, slice_index_or}
+use Rattle.std.specs.Prelude.{ℕ, ◌<◌, ◌≤◌, min, false, List, length, slice_index_or}
 use Rattle.charges.specs.Meaning.{Meaning}
 
--- what a number that names no mechanism is answered by: no month is fit, and all figures are 0
+-- the numbers that a schedule is asked for: those of its own mechanisms, of the first eight
+pub record IsAsked (row : List Meaning) (number : ℕ) : Type 0 where
+  pub own : number < length row
+  pub up_to_7 : number ≤ 7
+
+-- what stands where a row has no mechanism, so that a definition is whole; nothing is asked of it
 abbrev pub no_mechanism : Meaning
 no_mechanism = record { fit = λ _. false; quantity = λ _. 0; assessed = λ _. (0, 0) }
 

@@ -1,9 +1,13 @@
 -- Where a number of two rows joined is found.
-use Rattle.std.specs.Prelude.{◌≡◌, ℕ, ◌≤◌, List, ◌++◌, Option, Some, None}
+use Rattle.std.specs.Prelude.{◌≡◌, ℕ, List, ◌++◌, Option, Some, None}
 use Rattle.charges.specs.Meaning.{Meaning}
-use Rattle.schedule.specs.Rows.{numbered}
+use Rattle.schedule.specs.Rows.{IsAsked, numbered}
 
--- it names the same mechanism in the first row by itself, or in the second by a number that may be asked
+-- it names the same mechanism by a number that one of the rows may be asked for: of the first by itself, or of the second
+pub record FoundIn (row joined : List Meaning) (n number : ℕ) : Type 0 where
+  pub asked : IsAsked row n
+  pub same : numbered row n ≡ numbered joined number
+
 abbrev pub Found : List Meaning → List Meaning → ℕ → Option ℕ → Type 0
-Found first second number None = numbered first number ≡ numbered (first ++ second) number
-Found first second number (Some n) = (n ≤ 7) × (numbered second n ≡ numbered (first ++ second) number)
+Found first second number None = FoundIn first (first ++ second) number number
+Found first second number (Some n) = FoundIn second (first ++ second) n number

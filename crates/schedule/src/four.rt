@@ -57,7 +57,8 @@ impl FourCharges {
 impl Schedule for FourCharges {
     ghost meaning = { λ s. four_charges (cap_of s) };
 
-    ghost lawful = { λ s. All-from_recursion Lawful (four_charges (cap_of s)) (generation_lawful, (transmission_lawful, (loss_of_both_lawful (cap_of s), (lifeline_lawful, tt)))) };
+    ghost lawful = { λ s. All-from_recursion Lawful (four_charges (cap_of s))
+        (generation_lawful, (transmission_lawful, (loss_of_both_lawful (cap_of s), (lifeline_lawful, tt)))) };
 
     fn count(&self) -> usize {
         self.row.count()

@@ -1,5 +1,6 @@
 // Two schedules in a row, as one: the numbers of the second go on after those of the first.
-ghost use Rattle.std.specs.Prelude.{◌≤◌, ◌++◌};
+ghost use Rattle.std.specs.Prelude.{◌++◌};
+ghost use Rattle.schedule.specs.Rows.{IsAsked};
 ghost use Rattle.schedule.specs.Sides.{Found};
 ghost use Rattle.std.proofs.lemmas.List.Elements.{All-append};
 ghost use Rattle.charges.specs.Meaning.{Lawful};
@@ -16,7 +17,8 @@ pub struct Joined<F, S> {
 impl<F: Schedule, S: Schedule> Joined<F, S> {
     // A mechanism's number in the second schedule, or None where the first has it.
     fn in_second(&self, number: usize) -> Option<usize>
-        ensures { number ≤ 7 → Found (F.Schedule.meaning self.now.first) (S.Schedule.meaning self.now.second) number result }
+        ensures { IsAsked (F.Schedule.meaning self.now.first ++ S.Schedule.meaning self.now.second) number
+            → Found (F.Schedule.meaning self.now.first) (S.Schedule.meaning self.now.second) number result }
     {
         number.checked_sub(self.first.count())
     }
@@ -26,7 +28,8 @@ impl<F: Schedule, S: Schedule> Joined<F, S> {
 impl<F: Schedule, S: Schedule> Schedule for Joined<F, S> {
     ghost meaning = { λ s. F.Schedule.meaning s.first ++ S.Schedule.meaning s.second };
 
-    ghost lawful = { λ s. All-append Lawful (F.Schedule.meaning s.first) (S.Schedule.meaning s.second) (F.Schedule.lawful s.first) (S.Schedule.lawful s.second) };
+    ghost lawful = { λ s. All-append Lawful (F.Schedule.meaning s.first) (S.Schedule.meaning s.second)
+        (F.Schedule.lawful s.first) (S.Schedule.lawful s.second) };
 
     fn count(&self) -> usize {
         (self.first.count() + self.second.count()).min(9)

@@ -1,4 +1,4 @@
-// A schedule of one mechanism.
+// A schedule of one mechanism, which answers whatever number it is asked for, as its own is 0.
 ghost use Rattle.std.specs.Prelude.{[], ◌∷◌};
 ghost use Rattle.std.proofs.lemmas.List.Elements.{All-nil, All-cons};
 ghost use Rattle.charges.specs.Meaning.{Lawful};
@@ -21,21 +21,15 @@ impl<M: Mechanism> Schedule for Single<M> {
         1
     }
 
-    fn is_fit(&self, number: usize, month: &Month) -> bool {
-        number == 0 && self.mechanism.is_fit(month)
+    fn is_fit(&self, _number: usize, month: &Month) -> bool {
+        self.mechanism.is_fit(month)
     }
 
-    fn quantity(&self, number: usize, month: &Month) -> u64 {
-        if number > 0 {
-            return 0;
-        }
+    fn quantity(&self, _number: usize, month: &Month) -> u64 {
         self.mechanism.quantity(month)
     }
 
-    fn assess(&self, number: usize, months: &[Month]) -> (u64, u64) {
-        if number > 0 {
-            return (0, 0);
-        }
+    fn assess(&self, _number: usize, months: &[Month]) -> (u64, u64) {
         self.mechanism.assess(months)
     }
 }

@@ -2,7 +2,7 @@
 use Rattle.std.proofs.Common.{◌≡◌, ℕ, suc, ◌+◌, ◌<◌, ◌≤◌, List, length, map, ap, sym, ◌∙◌, ℤ, pos, negsuc, ◌+ℤ◌, ◌-ℤ◌, ◌*ℤ◌, ◌≤ℤ◌, get_or, slice_index, slice_index_or, w64, to_z, of_z, arith}
 use Rattle.std.proofs.lemmas.Int.{ints}
 use Rattle.std.proofs.lemmas.Nat.{mul-le}
-use Rattle.std.proofs.lemmas.List.{get_or-map}
+use Rattle.std.proofs.lemmas.List.{length-map, get_or-map}
 use Rattle.std.proofs.Math.IntN.{pos-*ℤ-pos, negsuc-*ℤ-pos}
 use Rattle.charges.specs.Assessed.{allowance_of}
 use Rattle.charges.specs.Meaning.{Meaning}
@@ -12,7 +12,7 @@ use Rattle.schedule.specs.Rows.{numbered}
 use Rattle.settlement.proofs.Numbers.{int_sum-push}
 use Rattle.settlement.specs.Months.{quantity_of}
 use Rattle.settlement.specs.Numbers.{by_number, int_sum}
-use Rattle.settlement.specs.Rules.{billed_rate, outstanding}
+use Rattle.settlement.specs.Rules.{billed_rate, outstanding, total}
 use Rattle.settlement.specs.declared.amounts.OpeningBalance.{OpeningBalance}
 
 -- what a quantity is charged at a rate, at least and at most
@@ -60,3 +60,9 @@ one_mechanism_more row openings ms bills n x b within at is =
     let opening : slice_index_or balances n (pos 0) ≡ x.units = get_or-map (λ o. o.units) openings n x (pos 0) within ∙ ap (λ o. o.units) (sym at) in
     let next : n + 1 ≡ suc n = omega arith in
     rw (next, is, ← opening) (int_sum-push (by_number (λ i. outstanding (numbered row i) i (slice_index_or balances i (pos 0)) ms bills) n) _)
+
+-- after all of them it is the total
+pub all_mechanisms : (row : List Meaning) (openings : List OpeningBalance) (balances : List ℤ) (ms : List Figures) (bills : List (List ℤ)) (n : ℕ) (t : ℤ) → map (λ o. o.units) openings ≡ balances → n ≡ length openings → t ≡ total_so_far row (map (λ o. o.units) openings) ms bills n → t ≡ total row balances ms bills
+all_mechanisms row openings balances ms bills n t same all so_far =
+    let counted : n ≡ length balances = all ∙ sym (length-map openings (λ o. o.units)) ∙ ap length same in
+    so_far ∙ ap (λ bs. total_so_far row bs ms bills n) same ∙ ap (total_so_far row balances ms bills) counted

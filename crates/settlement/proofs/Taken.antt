@@ -1,5 +1,5 @@
 -- The positions of the mechanisms, one after another.
-use Rattle.std.proofs.Common.{◌≡◌, ℕ, ◌+◌, ◌<◌, List, [], ◌∷◌, ◌++◌, map, length, get_or, slice_index_or, take, refl, ap, sym, ◌∙◌, ℤ, pos, Some, slice_get, arith}
+use Rattle.std.proofs.Common.{◌≡◌, ℕ, ◌+◌, ◌<◌, ◌≤◌, List, [], ◌∷◌, ◌++◌, map, length, get_or, slice_index_or, take, refl, ap, sym, ◌∙◌, ℤ, pos, Some, slice_get, arith}
 use Rattle.std.proofs.lemmas.List.{length-map, length_push, length-take-le, map_more, get_or_push, get_or_append_left}
 use Rattle.std.proofs.lemmas.Option.{slice_get_within, get_or_from_slice_get, slice_get-get_or}
 use borrow.Author.Count.{below_more}
@@ -7,16 +7,23 @@ use Rattle.bounded.specs.View.{held, Grew}
 use Rattle.bounded.specs.declared.up_to.UpTo.{UpTo}
 use Rattle.charges.specs.Meaning.{Meaning}
 use Rattle.month.specs.Figures.{Figures}
-use Rattle.schedule.specs.Rows.{numbered}
+use Rattle.schedule.specs.Rows.{IsAsked, numbered}
 use Rattle.settlement.specs.Months.{Settleable}
 use Rattle.settlement.specs.Positions.{IsPosition, ArePositions}
+use Rattle.settlement.specs.Settling.{opening_units}
 use Rattle.settlement.specs.declared.amounts.OpeningBalance.{OpeningBalance}
 use Rattle.settlement.specs.declared.position.Position.{Position}
+
+-- where each mechanism has an opening balance, the number of a balance is one that a schedule is asked for
+pub own_number : (row : List Meaning) (balances : UpTo OpeningBalance 8) (items : List OpeningBalance) (number : ℕ) → length (opening_units balances) ≡ length row → items ≡ held balances → length items ≤ 8 → number < length items → IsAsked row number × (number < length (opening_units balances))
+own_number row balances items number count is few inside =
+    let here : number < length (opening_units balances) = omega (arith, inside, ap length is, length-map (held balances) (λ b. b.units)) in
+    (record { own = omega (arith, here, count); up_to_7 = omega (arith, few, inside) }, here)
 
 module _ (row : List Meaning) (ms : List Figures) (bills : List (List ℤ)) where
   -- before the first mechanism
   pub no_positions : (ps : List Position) → ps ≡ [] → ArePositions row [] ms bills ps
-  no_positions ps none = rw none (record { lawful = λ i h. absurd (omega arith); count = refl; each = λ i p h. absurd (omega (arith, slice_get_within [] i p h)) })
+  no_positions ps none = rw none (record { settleable = λ i h. absurd (omega arith); count = refl; each = λ i p h. absurd (omega (arith, slice_get_within [] i p h)) })
 
   module _ (bs : List ℤ) (ps : List Position) (s : ArePositions row bs ms bills ps) where
     module _ (b : ℤ) (p : Position) (is : IsPosition (numbered row (length bs)) (length bs) b ms bills p) where
@@ -40,7 +47,7 @@ module _ (row : List Meaning) (ms : List Figures) (bills : List (List ℤ)) wher
       positions_more : Settleable (numbered row (length bs)) ms → ArePositions row (bs ++ b ∷ []) ms bills (ps ++ p ∷ [])
       unfolding Each
       positions_more settleable = record {
-        lawful = λ i h. below_more (λ j. Settleable (numbered row j) ms) (length bs) s.lawful settleable i (omega (arith, length_push bs b));
+        settleable = λ i h. below_more (λ j. Settleable (numbered row j) ms) (length bs) s.settleable settleable i (omega (arith, length_push bs b));
         count = omega (arith, length_push bs b, length_push ps p, s.count);
         each = λ i q got. below_more Each (length bs) each_before each_last i (omega (arith, slice_get_within (ps ++ p ∷ []) i q got, length_push ps p, s.count)) q got;
       }

@@ -1,5 +1,6 @@
 pub mod Bands
 pub mod Bounds
+pub mod CorrectionLaws
 pub mod Corrections
 pub mod Months
 pub mod Numbers

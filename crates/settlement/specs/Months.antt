@@ -4,7 +4,7 @@ use Rattle.charges.specs.Assessed.{allowance_of}
 use Rattle.charges.specs.Meaning.{Meaning, LawfulAnswer}
 use Rattle.charges.specs.declared.assessment.Assessment.{Assessment}
 use Rattle.month.specs.Figures.{Figures}
-use Rattle.schedule.specs.Rows.{numbered}
+use Rattle.schedule.specs.Rows.{IsAsked, numbered}
 use Rattle.settlement.specs.Numbers.{by_number}
 
 -- months are counted from 0 here; the base rate and the allowance of month j depend on the months up to it
@@ -41,9 +41,15 @@ pub record AllLawful (k : Meaning) (ms : List Figures) : Type 0 where
   pub few : length ms ≤ 36
   pub lawful : (j : ℕ) → j < length ms → LawfulAnswer (quantity_at k ms j) (assessed_at k ms j)
 
--- so for each of the first n mechanisms
-abbrev pub EachLawful : List Meaning → ℕ → List Figures → Type 0
-EachLawful row n ms = (i : ℕ) → i < n → AllLawful (numbered row i) ms
+-- a schedule is asked for this number, and the answers of its mechanism keep the law
+pub record Assessable (row : List Meaning) (number : ℕ) (ms : List Figures) : Type 0 where
+  pub asked : IsAsked row number
+  pub lawful : AllLawful (numbered row number) ms
+
+-- there are n mechanisms, and the answers of each keep the law
+pub record EachLawful (row : List Meaning) (n : ℕ) (ms : List Figures) : Type 0 where
+  pub count : n ≡ length row
+  pub each : (i : ℕ) → i < n → AllLawful (numbered row i) ms
 
 -- one mechanism's answers keep the law, and a month stands
 pub record Settleable (k : Meaning) (ms : List Figures) : Type 0 where

@@ -3,7 +3,7 @@ use Rattle.std.specs.Prelude.{◌≡◌, ℕ, ◌-◌, List, length, Bool, ℤ, 
 use Rattle.charges.specs.Meaning.{Meaning}
 use Rattle.month.specs.Figures.{Figures}
 use Rattle.schedule.specs.Rows.{numbered}
-use Rattle.settlement.specs.Settling.{EachSettleable}
+use Rattle.settlement.specs.Settling.{FirstSettleable}
 use Rattle.settlement.specs.Corrections.{coming_rate}
 use Rattle.settlement.specs.Months.{quantity_at}
 use Rattle.settlement.specs.Rules.{outstanding, recent}
@@ -29,6 +29,6 @@ pub record IsPosition (k : Meaning) (i : ℕ) (opening : ℤ) (ms : List Figures
 
 -- one for each opening balance, by number
 pub record ArePositions (row : List Meaning) (balances : List ℤ) (ms : List Figures) (bills : List (List ℤ)) (ps : List Position) : Type 0 where
-  pub lawful : EachSettleable row (length balances) ms
+  pub settleable : FirstSettleable row (length balances) ms
   pub count : length ps ≡ length balances
   pub each : (i : ℕ) (p : Position) → slice_get ps i ≡ Some p → IsPosition (numbered row i) i (slice_index_or balances i (pos 0)) ms bills p

@@ -1,5 +1,5 @@
 -- What settling answers.
-use Rattle.std.specs.Prelude.{ℕ, ◌-◌, ◌<◌, Bool, List, map, length, ℤ, pos, Option, Some, None, slice_index_or}
+use Rattle.std.specs.Prelude.{◌≡◌, ℕ, ◌-◌, ◌<◌, Bool, List, map, length, ℤ, pos, Option, Some, None, slice_index_or}
 use Rattle.bounded.specs.View.{held}
 use Rattle.bounded.specs.declared.up_to.UpTo.{UpTo}
 use Rattle.charges.specs.Meaning.{Meaning}
@@ -64,5 +64,10 @@ settled row spread balances ms bills left barred =
     }
 
 -- each of the first n mechanisms can be settled: a month stands, at most 36 do, and its answers keep the law
-abbrev pub EachSettleable : List Meaning → ℕ → List Figures → Type 0
-EachSettleable row n ms = (i : ℕ) → i < n → Settleable (numbered row i) ms
+abbrev pub FirstSettleable : List Meaning → ℕ → List Figures → Type 0
+FirstSettleable row n ms = (i : ℕ) → i < n → Settleable (numbered row i) ms
+
+-- there are n mechanisms, and each can be settled
+pub record EachSettleable (row : List Meaning) (n : ℕ) (ms : List Figures) : Type 0 where
+  pub count : n ≡ length row
+  pub each : FirstSettleable row n ms

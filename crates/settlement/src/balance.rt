@@ -5,12 +5,12 @@ ghost use Rattle.month.specs.View.{figures};
 ghost use Rattle.schedule.specs.Rows.{numbered};
 ghost use Rattle.settlement.specs.Settling.{units_of, opening_units};
 ghost use Rattle.settlement.specs.Bounds.{greatest_month_adds, greatest_outstanding};
-ghost use Rattle.settlement.specs.Months.{AllLawful, EachLawful, quantity_of};
+ghost use Rattle.settlement.specs.Months.{Assessable, EachLawful, quantity_of};
 ghost use Rattle.settlement.specs.Rules.{balance_after, outstanding, billed_rate, total};
 
 use crate::amounts::{OpeningBalance, Rate};
 use crate::assessing::assessments;
-use crate::rates::{Balances, Rates};
+use crate::rates::{Balances, Rates, suits};
 use charges::Assessment;
 use month::Month;
 use schedule::Schedule;
@@ -67,8 +67,8 @@ pub(crate) fn balance_of(
     balance
 }
 
-// The outstanding balance of mechanism `number`, by its opening balance, the months that stand and what these were billed; None only where an
-// answer of the mechanism breaks the law, or more than 36 months stand, and for a number above 7, as a schedule is asked for no other.
+// The outstanding balance of mechanism `number`, by its opening balance, the months that stand and what these were billed; None for a number that
+// a schedule is not asked for, and where an answer of the mechanism breaks the law or more than 36 months stand.
 pub fn outstanding<S: Schedule>(
     schedule: &S,
     number: usize,
@@ -77,19 +77,20 @@ pub fn outstanding<S: Schedule>(
     bills: &[Rates],
 ) -> Option<i64>
     ensures { MatchOption result
-        (number ≤ 7 → ¬ AllLawful (numbered (S.Schedule.meaning schedule.now) number) (map figures months.now))
-        (λ b. (number ≤ 7)
+        (¬ Assessable (S.Schedule.meaning schedule.now) number (map figures months.now))
+        (λ b. Assessable (S.Schedule.meaning schedule.now) number (map figures months.now)
         × (b ≡ outstanding (numbered (S.Schedule.meaning schedule.now) number) number opening.units (map figures months.now) (map units_of bills.now))
         × (nat_abs b ≤ greatest_outstanding)) }
 {
-    if number > 7 {
+    if number >= schedule.count().min(8) {
         return None;
     }
     let assessed = assessments(schedule, number, months)?;
     Some(balance_of(number, opening, assessed.as_slice(), bills))
 }
 
-// What is outstanding of all mechanisms together, one for each opening balance; None only where that of one of them is None.
+// What is outstanding of all mechanisms together, of which each has an opening balance; None where one has none, or what is outstanding of one
+// is None.
 pub fn total<S: Schedule>(
     schedule: &S,
     balances: &Balances,
@@ -98,8 +99,12 @@ pub fn total<S: Schedule>(
 ) -> Option<i64>
     ensures { MatchOption result
         (¬ EachLawful (S.Schedule.meaning schedule.now) (length (opening_units balances.now)) (map figures months.now))
-        (λ t. t ≡ total (S.Schedule.meaning schedule.now) (opening_units balances.now) (map figures months.now) (map units_of bills.now)) }
+        (λ t. EachLawful (S.Schedule.meaning schedule.now) (length (opening_units balances.now)) (map figures months.now)
+        × (t ≡ total (S.Schedule.meaning schedule.now) (opening_units balances.now) (map figures months.now) (map units_of bills.now))) }
 {
+    if !suits(schedule, balances) {
+        return None;
+    }
     let mut total = 0;
     for (number, opening) in balances.as_slice().iter().enumerate() {
         total += outstanding(schedule, number, *opening, months, bills)?;

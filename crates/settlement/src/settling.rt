@@ -64,8 +64,9 @@ fn announce(positions: &Positions, terms: &Terms, standing: Standing, barred: bo
     rates
 }
 
-// The answer for the last of the months, by what each was billed and by the record of the month before the last, where one stands; None only where
-// no month stands or more than 36 do, or an answer of a mechanism breaks the law, as none does where all months are fit.
+// The answer for the last of the months, by what each was billed and by the record of the month before the last, where one stands; None where a
+// mechanism has no opening balance, no month stands or more than 36 do, or an answer of a mechanism breaks the law, as none does where the months
+// can stand.
 pub fn settle<S: Schedule>(
     schedule: &S,
     terms: &Terms,
@@ -75,9 +76,10 @@ pub fn settle<S: Schedule>(
 ) -> Option<Answer>
     ensures { MatchOption result
         (¬ EachSettleable (S.Schedule.meaning schedule.now) (length (opening_units terms.now.balances)) (map figures months.now))
-        (λ a. answered a
+        (λ a. EachSettleable (S.Schedule.meaning schedule.now) (length (opening_units terms.now.balances)) (map figures months.now)
+        × (answered a
         ≡ settled (S.Schedule.meaning schedule.now) terms.now.spread.months (opening_units terms.now.balances) (map figures months.now)
-        (map units_of bills.now) (left_by before) (is_barred before)) }
+        (map units_of bills.now) (left_by before) (is_barred before))) }
 {
     let positions = positions(schedule, &terms.balances, months, bills)?;
     let closing = close(&positions);

@@ -3,6 +3,7 @@ use Rattle.std.proofs.Common.{refl}
 use Rattle.std.specs.Fmt.{digits}
 use Rattle.fields.specs.Bytes.{be}
 use Rattle.workedcases.specs.WorkedCases.{WorkedCases}
+use Rattle.workedcases.proofs.Run.{printed, printed_alone}
 
 pub worked_cases : WorkedCases
 unfolding be digits
@@ -17,6 +18,9 @@ worked_cases = record {
   amendment_line = refl;
   line_of_an_entry = λ m a. refl;
   line_of_an_amendment = λ m a. refl;
+  stream_length = refl;
+  stream_printed = printed;
+  stream_printed_once = printed_alone;
   entry_balances = refl;
   entry_revenue = refl;
   amendment_balances = refl;
@@ -35,7 +39,25 @@ worked_cases = record {
   above_three_hundredths_below_zero_not_within = refl;
   nothing_within_nothing = refl;
   one_beyond_nothing = refl;
+  steady_up_to_a_tenth = refl;
+  correcting_beyond_a_tenth = refl;
+  correcting_above_three_hundredths = refl;
+  steady_within_three_hundredths = refl;
   rounded_toward_zero = refl;
+  correction_at_the_most = refl;
+  correction_above_the_most = refl;
+  correction_at_the_least = refl;
+  correction_below_the_least = refl;
+  upward_not_barred = refl;
+  upward_barred = refl;
+  downward_barred = refl;
+  one_month_bars_nothing = refl;
+  one_month_amended_bars_nothing = refl;
+  filed_month_bars_nothing = refl;
+  pending_month_bars = refl;
+  missed_month_bars = refl;
+  revenue_of_the_latest_three = refl;
+  gross_up_of_the_latest_twelve = refl;
   half_lost_accepted = refl;
   above_half_lost_refused = refl;
   empty_file_refused = λ kind account m. refl;

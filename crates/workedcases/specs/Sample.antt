@@ -1,16 +1,17 @@
 -- The book and the months of the worked cases.
-use Rattle.std.specs.Prelude.{ℕ, Bool, List, [], ◌∷◌, pos}
+use Rattle.std.specs.Prelude.{ℕ, Bool, List, [], ◌∷◌, replicate, ℤ, pos}
 use Rattle.book.specs.Account.{Account, marks_of}
 use Rattle.book.specs.Amending.{answer_now, replaced}
 use Rattle.book.specs.Duties.{marked}
 use Rattle.book.specs.Entering.{answer_to, with_month}
 use Rattle.book.specs.Opening.{Given, newly_opened}
 use Rattle.book.specs.Tally.{Posting, entry, amendment}
-use Rattle.charges.specs.Meaning.{Meaning, price_of}
+use Rattle.charges.specs.Meaning.{Meaning}
 use Rattle.month.specs.Figures.{Figures}
 use Rattle.month.specs.Sample.{sample_month}
 use Rattle.monthfile.specs.Layout.{file_of}
 use Rattle.schedule.specs.Four.{four_charges}
+use Rattle.settlement.specs.declared.record.Mark.{Mark}
 use Rattle.settlement.specs.declared.record.Mark.TheVariants.{Filed}
 
 -- the four charges, with a feeder loss cap of 5 percent
@@ -40,6 +41,18 @@ first lifeline = entry (file_of (sample_month 1 50000)) (sample_month 1 50000) [
 abbrev pub second : Posting
 second = amendment (file_of (sample_month 1 0)) (sample_month 1 0) (marks_of filed) (answer_now charges (replaced (sample_month 1 0) filed))
 
+-- a book that has 1,000,000,000 units of generation to recover when it is opened
+abbrev pub owing : Account
+owing = newly_opened (record (opening 500) { balances = pos 1000000000 ∷ pos 0 ∷ pos 0 ∷ pos 0 ∷ [] })
+
+-- the rates that it announces with month 2, by the mark of month 1
+abbrev pub rates_after : Mark → List ℤ
+rates_after mark = (answer_to charges (marked mark 1 (with_month charges owing (sample_month 1 50000))) (sample_month 2 50000)).rates
+
+-- the sample as months 1 to 4, of which the odd ones have no pilferage recovery
+abbrev pub four_months : List Figures
+four_months = sample_month 1 0 ∷ sample_month 2 50000 ∷ sample_month 3 0 ∷ sample_month 4 50000 ∷ []
+
 -- a month of 100 kWh, of which 1 is sold at the full rate, and which costs nothing. A cost, of 100 units for each centavo, is on average as many units per
 -- kWh as it has centavos
 abbrev pub hundred_kwh : Figures
@@ -58,6 +71,10 @@ hundred_kwh = record {
 abbrev pub losing : ℕ → ℕ → Figures
 losing substation feeder = record hundred_kwh { energy = record { input = 100; substation = substation; feeder = feeder } }
 
+-- a month that loses half of its input, and then twelve that lose a tenth
+abbrev pub thirteen_months : List Figures
+thirteen_months = losing 20 30 ∷ replicate 12 (losing 5 5)
+
 -- its power costs so many centavos
 abbrev pub power_at : ℕ → Figures
 power_at cost = record hundred_kwh { sources = record { cost = cost; taken = 0; passed = 0 } ∷ [] }
@@ -75,4 +92,4 @@ lifeline_at metering = record hundred_kwh {
 
 -- the base rate of a month that stands alone, and whether the month is fit
 abbrev pub price_and_fit : Meaning → Figures → ℕ × Bool
-price_and_fit k m = (price_of k m, k.fit m)
+price_and_fit k m = ((k.assessed (m ∷ [])).0, k.fit m)

@@ -1,8 +1,8 @@
 -- Worked cases, each by the definitions that the contracts cite. Below zero, neg_ℤ (pos n) is −n.
-use Rattle.std.specs.Prelude.{◌≡◌, ℕ, true, false, [], ◌∷◌, ◌++◌, codes, pos, neg_ℤ, Option, Some, None}
+use Rattle.std.specs.Prelude.{◌≡◌, ℕ, true, false, List, [], ◌∷◌, ◌++◌, length, codes, pos, neg_ℤ, Option, Some, None}
 use Rattle.book.specs.Account.{Account}
 use Rattle.book.specs.Amending.{answer_now, replaced}
-use Rattle.book.specs.Entering.{answer_to}
+use Rattle.book.specs.Entering.{answer_to, with_month}
 use Rattle.book.specs.Opening.{numbers_of}
 use Rattle.book.specs.Postings.{all_asked}
 use Rattle.book.specs.Refusals.{book_refusal}
@@ -11,6 +11,7 @@ use Rattle.book.specs.Tally.{tally}
 use Rattle.book.specs.declared.kind.PostingKind.{PostingKind}
 use Rattle.book.specs.declared.kind.PostingKind.TheVariants.{Entry, Amendment}
 use Rattle.charges.specs.Charges.{generation, transmission, lifeline}
+use Rattle.charges.specs.Formulas.{twelve_months, gross_up}
 use Rattle.fields.specs.Questions.{first_no, carried}
 use Rattle.fields.specs.declared.refusal.Layer.TheVariants as layer
 use Rattle.month.specs.Asked.{month_asked}
@@ -19,18 +20,20 @@ use Rattle.month.specs.Refusals.{month_refusal}
 use Rattle.month.specs.Sample.{sample_month}
 use Rattle.monthfile.specs.Layout.{file_of}
 use Rattle.printed.specs.Lines.{line_bytes, answer_line}
-use Rattle.printed.specs.Runs.{frame_asked, closed}
+use Rattle.printed.specs.Runs.{State, frame_asked, closed, Printed}
 use Rattle.printed.specs.declared.call.Call.TheVariants as call
 use Rattle.printed.specs.declared.line.Line.TheVariants as line
-use Rattle.settlement.specs.Settling.{answered}
+use Rattle.settlement.specs.Settling.{answered, standing_after}
 use Rattle.settlement.specs.Bands.{band}
-use Rattle.settlement.specs.Corrections.{spread_over}
+use Rattle.settlement.specs.Corrections.{spread_over, correction}
 use Rattle.settlement.specs.Numbers.{by_number}
 use Rattle.settlement.specs.Rules.{revenue}
 use Rattle.settlement.specs.declared.answer.Answer.{Answer}
 use Rattle.settlement.specs.declared.band.Band.TheVariants.{Beyond, Between, Within}
+use Rattle.settlement.specs.declared.record.Mark.TheVariants.{Pending, Filed, Missed}
 use Rattle.settlement.specs.declared.standing.Standing.TheVariants.{Steady, Correcting}
-use Rattle.workedcases.specs.Sample.{charges, opening, opened, filed, first, second, losing, power_at, transmission_at, lifeline_at, price_and_fit}
+use Rattle.workedcases.specs.Sample.{charges, opening, opened, filed, first, second, owing, rates_after, four_months, thirteen_months, losing, power_at, transmission_at, lifeline_at, price_and_fit}
+use Rattle.workedcases.specs.Stream.{stream, lines, left}
 
 pub record WorkedCases : Type 0 where
   -- month 1 entered into a newly opened book, and then amended to a pilferage recovery of 0
@@ -55,6 +58,10 @@ pub record WorkedCases : Type 0 where
       answer_line call.Amendment 1 (answer_now charges (replaced (sample_month 1 0) filed)) ≡ codes "A 1 49833 10000 4649 3300 -99905398 7294094602 steady" ++ 10 ∷ []
   pub line_of_an_entry : (m : ℕ) (a : Answer) → line_bytes (line.Entered m a) ≡ answer_line call.Entry m (answered a)
   pub line_of_an_amendment : (m : ℕ) (a : Answer) → line_bytes (line.Amended m a) ≡ answer_line call.Amendment m (answered a)
+  -- from bytes to bytes: the run of the opening, the entry and the amendment from a closed book on has these lines, and no others
+  pub stream_length : length stream ≡ 431
+  pub stream_printed : Printed closed stream [] lines left
+  pub stream_printed_once : (out : List ℕ) (after : State) → Printed closed stream [] out after → (out ≡ lines) × (after ≡ left)
   -- the same total and revenue by the tally of the postings
   pub entry_balances : total_by_tally charges (numbers_of (opening 500)) (tally (numbers_of (opening 500)) (first 500 ∷ [])) ≡ neg_ℤ (pos 104757845)
   pub entry_revenue : revenue charges 4 (tally (numbers_of (opening 500)) (first 500 ∷ [])).months ≡ 7289242155
@@ -88,8 +95,33 @@ pub record WorkedCases : Type 0 where
   -- with no revenue
   pub nothing_within_nothing : band (pos 0) 0 ≡ Within
   pub one_beyond_nothing : band (pos 1) 0 ≡ Beyond
+  -- between the bands the standing is the one that the month before left, at either limit
+  pub steady_up_to_a_tenth : standing_after Steady (record { total = pos 100; revenue = 1000 }) ≡ Steady
+  pub correcting_beyond_a_tenth : standing_after Steady (record { total = pos 101; revenue = 1000 }) ≡ Correcting
+  pub correcting_above_three_hundredths : standing_after Correcting (record { total = pos 31; revenue = 1000 }) ≡ Correcting
+  pub steady_within_three_hundredths : standing_after Correcting (record { total = pos 30; revenue = 1000 }) ≡ Steady
   -- a correction is rounded toward zero
   pub rounded_toward_zero : spread_over (neg_ℤ (pos 7)) 2 ≡ neg_ℤ (pos 3)
+  -- spread over six months of 100 kWh, a balance comes to 1,000,000 for each kWh, and to one more, which is cut
+  pub correction_at_the_most : correction Correcting false 6 (pos 600000000) 100 ≡ pos 1000000
+  pub correction_above_the_most : correction Correcting false 6 (pos 600000600) 100 ≡ pos 1000000
+  pub correction_at_the_least : correction Correcting false 6 (neg_ℤ (pos 600000000)) 100 ≡ neg_ℤ (pos 1000000)
+  pub correction_below_the_least : correction Correcting false 6 (neg_ℤ (pos 600000600)) 100 ≡ neg_ℤ (pos 1000000)
+  -- where a correction is barred, one above zero is 0, and one below zero is as it was
+  pub upward_not_barred : correction Correcting false 6 (pos 1800) 100 ≡ pos 3
+  pub upward_barred : correction Correcting true 6 (pos 1800) 100 ≡ pos 0
+  pub downward_barred : correction Correcting true 6 (neg_ℤ (pos 1800)) 100 ≡ neg_ℤ (pos 3)
+  -- one month bars nothing, also where it is amended and pending: generation and lifeline are corrected upward, and loss downward
+  pub one_month_bars_nothing : (answer_to charges owing (sample_month 1 50000)).rates ≡ pos 51299 ∷ pos 10000 ∷ pos 4086 ∷ pos 3766 ∷ []
+  pub one_month_amended_bars_nothing :
+      (answer_now charges (with_month charges owing (sample_month 1 50000))).rates ≡ pos 51299 ∷ pos 10000 ∷ pos 4086 ∷ pos 3766 ∷ []
+  -- of two months the first bars what is upward, unless it is filed
+  pub filed_month_bars_nothing : rates_after Filed ≡ pos 51048 ∷ pos 10000 ∷ pos 4180 ∷ pos 3689 ∷ []
+  pub pending_month_bars : rates_after Pending ≡ pos 49791 ∷ pos 10000 ∷ pos 4180 ∷ pos 3300 ∷ []
+  pub missed_month_bars : rates_after Missed ≡ pos 49791 ∷ pos 10000 ∷ pos 4180 ∷ pos 3300 ∷ []
+  -- the revenue is that of the latest three months, and U goes by the latest twelve
+  pub revenue_of_the_latest_three : revenue charges 4 four_months ≡ 21872578912
+  pub gross_up_of_the_latest_twelve : gross_up 500 (twelve_months thirteen_months) ≡ 1111
   -- half of the input of 100 kWh may be lost, and no more: question 10, of field 5
   pub half_lost_accepted : first_no (carried month_refusal (month_asked (losing 20 30))) ≡ None
   pub above_half_lost_refused :

@@ -5,9 +5,11 @@ ghost use Rattle.month.specs.Figures.{Figures};
 ghost use Rattle.month.specs.Valid.{Valid};
 ghost use Rattle.month.specs.View.{figures};
 ghost use Rattle.monthfile.specs.Layout.{file_of};
+ghost use Rattle.settlement.specs.CorrectionLaws.{Corrects, Rounds};
 ghost use Rattle.settlement.specs.Settling.{answered};
 ghost use Rattle.book.specs.Account.{marks_told};
 ghost use Rattle.book.specs.Amending.{Amended, AmendmentKeepsBook, Replaces, SettlesNow, SomeMonth};
+ghost use Rattle.book.specs.Corrected.{EachAnnounced, BookCorrectable};
 ghost use Rattle.book.specs.Opening.{OpeningNumbers};
 ghost use Rattle.book.specs.Postings.{PostingRefused, posting_asked};
 ghost use Rattle.book.specs.Reconciled.{BookReconciled};
@@ -36,6 +38,9 @@ impl<S: Schedule> Book<S> {
         ensures accepts { (m : Figures) → Valid m → file.now ≡ file_of m
             → first_no (posting_asked Amendment (S.Schedule.meaning self.old.schedule) self.old.account m) ≡ None → IsOk result }
         ensures refused { OnErr result ((self.new ≡ self.old) × (answer.new ≡ answer.old)) }
+        // What a correction does, of each mechanism by what is then announced and told; and how it is rounded.
+        ensures corrections { IfOk result (λ _. EachAnnounced Corrects (S.Schedule.meaning self.old.schedule) self.new.account) }
+        ensures rounding { IfOk result (λ _. EachAnnounced Rounds (S.Schedule.meaning self.old.schedule) self.new.account) }
         // Billed rates, marks and the closing figures of earlier months stay.
         ensures keeps { IfOk result (λ month. AmendmentKeepsBook month self.old.account self.new.account) }
         // A book that agrees with a tally agrees with it afterwards, with this file counted where it was accepted.
@@ -66,6 +71,7 @@ impl<S: Schedule> Book<S> {
         requires { SomeMonth self.old.account }
         ensures schedule { self.new.schedule ≡ self.old.schedule }
         ensures settled { SettlesNow (S.Schedule.meaning self.old.schedule) self.old.account self.new.account (answered result) }
+        ensures correctable { BookCorrectable (S.Schedule.meaning self.old.schedule) self.new.account }
     {
         let Some(opened) = self.opened else {
             unreachable()

@@ -1,5 +1,5 @@
 // Questions 1 to 13, of a file that is to be posted.
-ghost use Rattle.std.specs.Prelude.{◌≡◌, ◌≤◌, None, MatchResult};
+ghost use Rattle.std.specs.Prelude.{◌≡◌, ◌≤◌, length, None, MatchResult};
 ghost use Rattle.fields.specs.Questions.{Asks, first_no};
 ghost use Rattle.month.specs.View.{figures};
 ghost use Rattle.monthfile.specs.Reading.{Accepted};
@@ -13,10 +13,11 @@ use month::Month;
 use monthfile::read_month;
 use schedule::Schedule;
 
-// Whether each of so many mechanisms finds the month fit, the lowest number first.
+// Whether each of so many of the schedule's mechanisms finds the month fit, the lowest number first.
 #[tactic(auto, using(crate::proofs::Asking::one_question_more, crate::proofs::Asking::first_no_numbered))]
 fn ask_fit<S: Schedule>(schedule: &S, mechanisms: usize, month: &Month) -> Result<(), BookFault>
-    requires { mechanisms ≤ 8 }
+    requires few { mechanisms ≤ 8 }
+    requires own { mechanisms ≤ length (S.Schedule.meaning schedule.now) }
     ensures { Asks (fit_asked (S.Schedule.meaning schedule.now) mechanisms (figures month.now)) result }
 {
     for number in 0..mechanisms {

@@ -5,8 +5,10 @@ ghost use Rattle.month.specs.Figures.{Figures};
 ghost use Rattle.month.specs.Valid.{Valid};
 ghost use Rattle.month.specs.View.{figures};
 ghost use Rattle.monthfile.specs.Layout.{file_of};
+ghost use Rattle.settlement.specs.CorrectionLaws.{Corrects, Rounds};
 ghost use Rattle.settlement.specs.Settling.{answered, opening_units, EachSettleable};
 ghost use Rattle.book.specs.Account.{Account, account_of, marks_told};
+ghost use Rattle.book.specs.Corrected.{EachAnnounced, BookCorrectable};
 ghost use Rattle.book.specs.Duties.{duty_asked};
 ghost use Rattle.book.specs.Entering.{Entered, AnswersTo, Adds, answer_to};
 ghost use Rattle.book.specs.Opening.{OpeningNumbers};
@@ -38,7 +40,9 @@ fn settle_with<S: Schedule>(
     ensures { length months.now < 36 → length billed.now < 36 → MatchOption result
         (¬ EachSettleable (S.Schedule.meaning schedule.now) (length (opening_units opened.now.terms.balances))
         (map figures months.now ++ figures month ∷ []))
-        (λ a. answered a ≡ answer_to (S.Schedule.meaning schedule.now) (account_of opened.now months.now billed.now records.now) (figures month)) }
+        (λ a. EachSettleable (S.Schedule.meaning schedule.now) (length (opening_units opened.now.terms.balances))
+        (map figures months.now ++ figures month ∷ [])
+        × (answered a ≡ answer_to (S.Schedule.meaning schedule.now) (account_of opened.now months.now billed.now records.now) (figures month))) }
 {
     let months: UpTo<Month, MOST_MONTHS> = UpTo::of_slice_and(months, month)?;
     let billed: UpTo<Rates, MOST_MONTHS> = UpTo::of_slice_and(billed, opened.announced)?;
@@ -63,6 +67,9 @@ impl<S: Schedule> Book<S> {
         ensures accepts { (m : Figures) → Valid m → file.now ≡ file_of m
             → first_no (posting_asked Entry (S.Schedule.meaning self.old.schedule) self.old.account m) ≡ None → IsOk result }
         ensures refused { OnErr result ((self.new ≡ self.old) × (answer.new ≡ answer.old)) }
+        // What a correction does, of each mechanism by what is then announced and told; and how it is rounded.
+        ensures corrections { IfOk result (λ _. EachAnnounced Corrects (S.Schedule.meaning self.old.schedule) self.new.account) }
+        ensures rounding { IfOk result (λ _. EachAnnounced Rounds (S.Schedule.meaning self.old.schedule) self.new.account) }
         // Filing would not refuse the duty now.
         ensures owed { IfOk result (λ duty. first_no (duty_asked self.new.account duty) ≡ None) }
         // A book that agrees with a tally agrees with it afterwards, with this file counted where it was accepted.
@@ -106,6 +113,7 @@ impl<S: Schedule> Book<S> {
         ensures schedule { self.new.schedule ≡ self.old.schedule }
         ensures added { Adds self.old.account self.new.account (figures month) (answered answer.now) result }
         ensures owed { first_no (duty_asked self.new.account result) ≡ None }
+        ensures correctable { BookCorrectable (S.Schedule.meaning self.old.schedule) self.new.account }
     {
         let Some(opened) = self.opened else {
             unreachable()

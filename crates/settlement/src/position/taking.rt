@@ -2,7 +2,7 @@
 ghost use Rattle.std.specs.Prelude.{◌≤◌, map, length, MatchOption};
 ghost use Rattle.bounded.specs.View.{held};
 ghost use Rattle.month.specs.View.{figures};
-ghost use Rattle.schedule.specs.Rows.{numbered};
+ghost use Rattle.schedule.specs.Rows.{IsAsked, numbered};
 ghost use Rattle.settlement.specs.Settling.{units_of, opening_units, EachSettleable};
 ghost use Rattle.settlement.specs.Months.{Settleable};
 ghost use Rattle.settlement.specs.Positions.{IsPosition, ArePositions};
@@ -11,7 +11,7 @@ use super::Position;
 use crate::amounts::OpeningBalance;
 use crate::assessing::assessments;
 use crate::balance::balance_of;
-use crate::rates::{Balances, Rates};
+use crate::rates::{Balances, Rates, suits};
 use bounded::UpTo;
 use charges::{Assessment, recent_allowances};
 use month::Month;
@@ -29,7 +29,7 @@ fn position<S: Schedule>(
     months: &[Month],
     bills: &[Rates],
 ) -> Option<Position>
-    ensures { number ≤ 7 → MatchOption result
+    ensures { IsAsked (S.Schedule.meaning schedule.now) number → MatchOption result
         (¬ Settleable (numbered (S.Schedule.meaning schedule.now) number) (map figures months.now))
         (λ p. Settleable (numbered (S.Schedule.meaning schedule.now) number) (map figures months.now)
         × IsPosition (numbered (S.Schedule.meaning schedule.now) number) number opening.units (map figures months.now) (map units_of bills.now) p) }
@@ -44,7 +44,7 @@ fn position<S: Schedule>(
     })
 }
 
-// The positions of all mechanisms, of which each has an opening balance.
+// The positions of all mechanisms, of which each has an opening balance; None where one has none, or cannot be settled.
 #[tactic(auto, using(crate::proofs::Taken::no_positions))]
 pub(crate) fn positions<S: Schedule>(
     schedule: &S,
@@ -54,8 +54,12 @@ pub(crate) fn positions<S: Schedule>(
 ) -> Option<Positions>
     ensures { MatchOption result
         (¬ EachSettleable (S.Schedule.meaning schedule.now) (length (opening_units balances.now)) (map figures months.now))
-        (λ ps. ArePositions (S.Schedule.meaning schedule.now) (opening_units balances.now) (map figures months.now) (map units_of bills.now) (held ps)) }
+        (λ ps. EachSettleable (S.Schedule.meaning schedule.now) (length (opening_units balances.now)) (map figures months.now)
+        × ArePositions (S.Schedule.meaning schedule.now) (opening_units balances.now) (map figures months.now) (map units_of bills.now) (held ps)) }
 {
+    if !suits(schedule, balances) {
+        return None;
+    }
     let mut taken = Positions::new();
     for (number, opening) in balances.as_slice().iter().enumerate() {
         let position = position(schedule, number, *opening, months, bills)?;

@@ -4,8 +4,8 @@ use Rattle.schedule.specs.Four.{four_charges, cap_of}
 use Rattle.printed.proofs.Journals.{posting_carries, filing_counted, with_filed}
 use Rattle.printed.proofs.working.enter.Goals as goal
 
-pub returns-clause-cases : goal.returns-clause-cases
-returns-clause-cases c =
+pub returns-clause-entered_once_filed : goal.returns-clause-entered_once_filed
+returns-clause-entered_once_filed c =
     let entered = c.in_ok-duty.ensures in
     record {
       entered = c.enter.new.self.account;
@@ -16,8 +16,8 @@ returns-clause-cases c =
       charges = ap (λ s. four_charges (cap_of s)) entered.schedule;
     }
 
-pub returns-clause-carries : goal.returns-clause-carries
-returns-clause-carries c =
+pub returns-clause-carries_once_filed : goal.returns-clause-carries_once_filed
+returns-clause-carries_once_filed c =
     let entered = c.in_ok-duty.ensures in
     let filed = filing_counted c.args.book.now.schedule c.enter.new.self c.in_ok-duty.duty entered.owed in
     posting_carries Entry _ _ _ (with_filed c.in_ok-duty.duty c.enter.new.self) _ _ _ entered.cases.open_before entered.cases.file_states entered.schedule (λ o ps more agrees posts. filed o more (entered.reconciled o ps more agrees posts))

@@ -4,6 +4,6 @@ use Rattle.settlement.proofs.Assessed.{assesses_next}
 use Rattle.settlement.proofs.assessing.assessments.Goals as goal
 
 pub loop-index-preserved : goal.loop-index-preserved
-loop-index-preserved g c = λ small.
+loop-index-preserved g c = λ asked.
     let grew : Grew c.loop-index.assessed c.push.new.self c.in_ok-assessment.assessment = search rules in
-    assesses_next _ _ _ _ _ _ (c.loop-index.invariant small) (c.in_ok-assessment.ensures small) c.loop-index-test.true grew
+    assesses_next _ _ _ _ _ _ (c.loop-index.invariant asked) (c.in_ok-assessment.ensures asked) c.loop-index-test.true grew

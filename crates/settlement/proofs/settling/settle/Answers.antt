@@ -5,4 +5,5 @@ use Rattle.settlement.proofs.settling.settle.Goals as goal
 pub returns : goal.returns
 returns g c =
     let closing = c.close-closing.ensures in
-    rw (← c.is_barred.ensures) (settled_from_positions _ _ _ _ _ c.in_ok-positions.ensures _ (left_by c.args.before) _ _ closing.total closing.revenue c.standing_after-standing.ensures c.announce-rates.ensures)
+    let taken = c.in_ok-positions.ensures in
+    (taken.0, rw (← c.is_barred.ensures) (settled_from_positions _ _ _ _ _ taken.1 _ (left_by c.args.before) _ _ closing.total closing.revenue c.standing_after-standing.ensures c.announce-rates.ensures))

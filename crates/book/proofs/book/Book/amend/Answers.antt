@@ -1,12 +1,15 @@
--- A file that is accepted amends a month, and is the next posting.
+-- A file that is accepted amends a month, and is the next posting; the rates announced after it keep the laws of a correction.
 use Rattle.std.proofs.Common.{ap, subst}
 use Rattle.std.proofs.lemmas.Result.{err_from_is_err_and}
 use Rattle.month.specs.View.{figures}
+use Rattle.settlement.specs.CorrectionLaws.{Corrects, Rounds}
 use Rattle.settlement.specs.Settling.{answered}
+use Rattle.settlement.proofs.CorrectionLaws.{corrects, rounds}
 use Rattle.book.specs.Amending.{SettlesNow}
 use Rattle.book.specs.declared.kind.PostingKind.TheVariants.{Amendment}
 use Rattle.book.proofs.Admitted.{none_refused}
 use Rattle.book.proofs.Amended.{some_replaced, amends, amended_keeps, amended_reconciled}
+use Rattle.book.proofs.Corrected.{amendment_announces}
 use Rattle.book.proofs.book.Book.amend.Goals as goal
 
 pub returns-in_err-month-clause-accepts : goal.returns-in_err-month-clause-accepts
@@ -29,3 +32,11 @@ returns-clause-keeps g c = amended_keeps _ _ _ _ _ _ (returns-clause-cases g c)
 
 pub returns-clause-reconciled : goal.returns-clause-reconciled
 returns-clause-reconciled g c = amended_reconciled _ _ _ _ _ _ (returns-clause-cases g c)
+
+pub returns-clause-corrections : goal.returns-clause-corrections
+returns-clause-corrections g c =
+    rw (← c.replace.ensures.schedule) (amendment_announces Corrects corrects _ _ _ _ c.settle_now.ensures.settled c.settle_now.ensures.correctable)
+
+pub returns-clause-rounding : goal.returns-clause-rounding
+returns-clause-rounding g c =
+    rw (← c.replace.ensures.schedule) (amendment_announces Rounds rounds _ _ _ _ c.settle_now.ensures.settled c.settle_now.ensures.correctable)

@@ -21,4 +21,4 @@ returns g c =
     let clear = asked_inside Entry g.S.Schedule.meaning _ _ (figures c.args.month.now) c.self.view_is c.requires in
     let can = settles row c.in-Some.opened b.months.items b.billed.items b.records.items c.in-Some.is c.args.month.now (g.met.S.Schedule.lawful b.schedule) c.self.invariant.0 clear in
     let answers = c.in-Some-settle_with.ensures (rw c.as_slice.ensures.value can.room) (rw c.as_slice-2.ensures.value can.room_billed) in
-    rw (← c.self.view_is) (answers_held row c.in-Some.opened b.months.items b.billed.items b.records.items c.in-Some.is (figures c.args.month.now) (answered c.in-Some-settle_with.answer) (rw (← c.as_slice.ensures.value, ← c.as_slice-2.ensures.value, ← c.as_slice-3.ensures.value) answers))
+    rw (← c.self.view_is) (answers_held row c.in-Some.opened b.months.items b.billed.items b.records.items c.in-Some.is (figures c.args.month.now) (answered c.in-Some-settle_with.answer) (rw (← c.as_slice.ensures.value, ← c.as_slice-2.ensures.value, ← c.as_slice-3.ensures.value) answers.1))

@@ -19,7 +19,7 @@ returns g c room_month room_billed =
     let billed : map units_of c.as_slice-2.result.now ≡ map units_of c.args.billed.now ++ units_of opened.announced ∷ [] =
     ap (map units_of) (c.as_slice-2.ensures.value ∙ search rules) ∙ map_push units_of c.args.billed.now opened.announced in
     let settles : List Figures → List (List ℤ) → Option Record → Type 0 =
-    λ ms bills before. MatchOption answer (¬ EachSettleable row (length balances) ms) (λ a. answered a ≡ settled row opened.terms.spread.months balances ms bills (left_by before) (is_barred before)) in
+    λ ms bills before. MatchOption answer (¬ EachSettleable row (length balances) ms) (λ a. EachSettleable row (length balances) ms × (answered a ≡ settled row opened.terms.spread.months balances ms bills (left_by before) (is_barred before))) in
     let settled_months = map figures c.as_slice.result.now in
     let settled_bills = map units_of c.as_slice-2.result.now in
     let by_months = subst (λ (ms : List Figures). settles ms settled_bills c.of_month.result) months c.settle.ensures in

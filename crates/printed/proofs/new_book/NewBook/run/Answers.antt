@@ -19,7 +19,7 @@ returns-in_err-write_run-clause-cases c =
     let facts = c.in_err-write_run.ensures.facts None (ap (λ s. s.account) c.self.invariant) in
     rw (err.1) (
       state_of c.write_run.new.book,
-      subst (λ (s : State). LacksRoomWith (RunFacts None) s c.args.input.now (vec_capacity c.args.output.now) c.args.output.now.items c.write_run.new.output.items (state_of c.write_run.new.book)) c.self.invariant facts,
+      subst (λ (s : State). LacksRoomWith (RunFacts None) s c.args.input.now (vec_capacity c.write_run.new.output) c.args.output.now.items c.write_run.new.output.items (state_of c.write_run.new.book)) c.self.invariant facts,
     )
 
 pub returns-in_err-write_run-clause-once : goal.returns-in_err-write_run-clause-once

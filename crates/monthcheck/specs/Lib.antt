@@ -1,3 +1,0 @@
-pub mod Caps
-pub mod Lines
-pub mod Pages

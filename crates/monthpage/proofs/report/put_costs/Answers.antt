@@ -1,0 +1,21 @@
+use Rattle.std.proofs.Common.{◌≤◌, ◌++◌, length, codes, decimal, append_assoc, arith}
+use Rattle.std.proofs.lemmas.List.{take_all}
+use Rattle.std.proofs.lemmas.Result.{on_ok_weaker}
+use Rattle.bounded.specs.View.{held}
+use Rattle.monthpage.specs.Lines.{costs_line}
+use Rattle.monthpage.proofs.Texts.{none, more, each_more}
+use Rattle.monthpage.proofs.report.put_costs.Goals as goal
+
+pub loop-i-init : goal.loop-i-init
+loop-i-init c = none _
+
+pub loop-i-preserved : goal.loop-i-preserved
+loop-i-preserved c =
+    each_more 1 _ _ (λ k s. costs_line (codes "source " ++ decimal k) s) (held c.args.statement.now.sources) _ _ _ _ _ c.as_slice-source-items.ensures.value c.loop-i.invariant (omega arith) (omega arith) c.in_ok-put_source.ensures
+
+pub returns : goal.returns
+returns c =
+    let sources = held c.args.statement.now.sources in
+    let done : length sources ≤ c.loop-i.i = rw c.as_slice-source-items.ensures.value at c.loop-i-test.false in
+    let all = rw (take_all c.loop-i.i sources done) at c.loop-i.invariant in
+    simp append_assoc at (on_ok_weaker c.put_source-2.result (λ put. more _ _ _ (more _ _ _ all c.in_ok-put_figure.ensures) put) c.put_source-2.ensures)

@@ -1,0 +1,4 @@
+pub mod Caps
+pub mod Lines
+pub mod Pages
+pub mod Printing

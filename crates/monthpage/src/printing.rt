@@ -1,0 +1,37 @@
+// From a reader to a writer, with the status that a program ends with.
+ghost use Rattle.std.specs.Prelude.{◌≡◌, IfOk};
+ghost use Rattle.std.specs.Process.{exit_status};
+ghost use Rattle.monthpage.specs.Printing.{status_of, PrintsPage};
+
+use crate::checking::check;
+use std::alloc::Global;
+use std::io::{Read, Write};
+use std::process::ExitCode;
+
+// Tells a script whether nothing is refused and the month is fit.
+fn exit_code(good: bool) -> ExitCode
+    ensures { exit_status result ≡ status_of good }
+{
+    if good {
+        ExitCode::SUCCESS
+    } else {
+        ExitCode::FAILURE
+    }
+}
+
+// Reads a month file to its end and prints its page.
+pub fn print_page<R: Read, W: Write>(
+    heap: Global,
+    cap: u64,
+    input: &mut R,
+    output: &mut W,
+) -> anyhow::Result<ExitCode>
+    // A status is answered only where the whole page of all that was to be read is written.
+    ensures { IfOk result (λ code. PrintsPage cap (R.remaining input.old) (W.contents output.old) (W.contents output.new) (exit_status code)) }
+{
+    let mut file = Vec::new(heap);
+    input.read_to_end(&mut file)?;
+    let checked = check(heap, cap, file.as_slice())?;
+    output.write_all(checked.page.as_bytes())?;
+    Ok(exit_code(checked.good))
+}
