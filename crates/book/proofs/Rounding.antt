@@ -25,7 +25,8 @@ at_difference own (suc q) billed =
     omega (arith, ints, at_difference own q billed, more, more_billed)
 
 module _ (row : List Meaning) (t : Tally) (i : ℕ) (all : AllLawful (numbered row i) t.months) where
-  -- of the month at a place among the standing ones, which counts from 0: what it may recover, what it was billed, what it was billed below its own rate, and on what
+  -- of the month at place j of the standing ones, which counts from 0: its allowance, what it was billed, what it was billed below its own rate, its
+  -- quantity
   abbrev allowed : ℕ → ℤ
   allowed j = pos (allowance row t i (suc j))
 

@@ -166,6 +166,7 @@ pub record Counted (row : List Meaning) (o : OpeningNumbers) (ps : List Posting)
 -- all of it, by the tally t
 pub record FactsBy (row : List Meaning) (o : OpeningNumbers) (ps : List Posting) (t : Tally) (read : Read)
     : Type 0 where
+  -- what the book tells as outstanding of each mechanism, as `told` has it
   pub outstanding : ℕ → ℤ
   pub balances : BalancesAddUp row o t outstanding
   pub sums : SumsAddUp row t outstanding read.total

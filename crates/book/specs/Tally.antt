@@ -21,10 +21,12 @@ use Rattle.book.specs.declared.kind.PostingKind.TheVariants.{Entry, Amendment}
 -- - of a client's run by `EntryActed` and `AmendmentActed`, by which the client is told `marks_told` of
 --   the book before, and by `EntryNoted` and `AmendmentNoted`, which take what it was told
 --   (crates/client/specs/Acting.antt);
--- - of a printed run by clause `journaled` of `work` (crates/printed/src/working.rt) and by
+-- - of a printed run by clause `journaled_once_filed` of `work` (crates/printed/src/working.rt) and by
 --   `JournaledAll`, which take `marks_told` of the state before a frame
---   (crates/printed/specs/Journals.antt). How filing and giving up change them is said by clauses
---   `cases` and `marks` of `Book::file` and `Book::give_up`.
+--   (crates/printed/specs/Journals.antt).
+--
+-- How filing and giving up change them is said by clauses `cases` and `marks` of `Book::file` and
+-- `Book::give_up`.
 pub record Posting : Type 0 where
   pub kind : PostingKind
   pub file : List ℕ
@@ -61,9 +63,9 @@ pub record Tally : Type 0 where
 abbrev pub no_months : OpeningNumbers → Tally
 no_months o = record { months = []; billed = []; closings = []; announced = o.rates }
 
--- an entry adds its month, billed at the rates last announced; an amendment replaces its month, which
--- stays billed and closed as it was. Either takes the announced rates, and the last month's closing
--- figures, from its answer
+-- an entry adds its month, billed at the rates last announced; an amendment replaces the figures of its
+-- month, which stays billed as it was. Either takes the last month's closing figures, and the rates
+-- announced, from its answer; all else stays. Nothing but a posting changes a tally
 abbrev pub counted : PostingKind → Figures → Answered → Tally → Tally
 counted Entry m answer t = record {
   months = t.months ++ m ∷ [];
