@@ -19,11 +19,11 @@ mod writing;
 // At most this many months stand.
 const MOST_MONTHS: usize = 36;
 
-// The marks of the months that stand, from month 1 on.
+/// The marks of the months that stand, from month 1 on.
 pub type Marks = UpTo<Mark, MOST_MONTHS>;
 
-// A book over a schedule of mechanisms: closed, or open with the months that were entered. Contracts see its schedule, and what it holds where it
-// is open, as plain numbers and lists.
+/// A book over a schedule of mechanisms: closed, or open with the months that were entered. Contracts see its schedule, and what it holds where it
+/// is open, as plain numbers and lists.
 #[derive(Drop)]
 pub struct Book<S: Schedule> {
     schedule: S,

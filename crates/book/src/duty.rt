@@ -4,8 +4,8 @@ ghost use Rattle.book.specs.Duties.{book_of, month_of};
 
 use crate::fault::BookFault;
 
-// Handed out by an accepted entry (Article 3, Section 1). It is neither `Drop`, `Clone` nor `Copy`, so that a program that lets one end
-// unspent, or uses one twice, does not pass the check.
+/// Handed out by an accepted entry (Article 3, Section 1). It is neither `Drop`, `Clone` nor `Copy`, so that a program that lets one end
+/// unspent, or uses one twice, does not pass the check.
 pub struct Duty {
     pub(crate) book: u64,
     pub(crate) month: u16,
@@ -20,7 +20,7 @@ impl<T: Drop> Ends for T {}
 impl Ends for Duty {}
 
 impl Duty {
-    // The number of the book that the month was entered in.
+    /// The number of the book that the month was entered in.
     pub fn book(&self) -> u64
         ensures { result ≡ book_of self.now }
     {
@@ -34,7 +34,7 @@ impl Duty {
     }
 }
 
-// A duty that was refused, back at its holder.
+/// A duty that was refused, back at its holder.
 pub struct ReturnedDuty {
     pub fault: BookFault,
     pub duty: Duty,

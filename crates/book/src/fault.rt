@@ -9,34 +9,34 @@ use month::MonthFault;
 use std::error::Error;
 use std::fmt;
 
-// Question 15, at the places 2 to 6.
+/// Question 15, at the places 2 to 6.
 #[derive(Clone, Copy, Debug, PartialEq, Eq)]
 pub enum OpeningFault {
-    // The spread is not 1 to 12 months.
+    /// The spread is not 1 to 12 months.
     Spread,
-    // A starting rate is above 10,000,000.
+    /// A starting rate is above 10,000,000.
     StartingRate,
-    // An opening balance is outside ±1,000,000,000,000.
+    /// An opening balance is outside ±1,000,000,000,000.
     Balance,
-    // The schedule has not 1 to 8 mechanisms, or not as many rates and balances were given.
+    /// The schedule has not 1 to 8 mechanisms, or not as many rates and balances were given.
     Count,
-    // The book is open already.
+    /// The book is open already.
     AlreadyOpen,
 }
 
 #[derive(Clone, Copy, Debug, PartialEq, Eq)]
 pub enum BookFault {
-    // The file states no month: questions 1 to 11.
+    /// The file states no month: questions 1 to 11.
     Month(MonthFault),
-    // The month is not the next to enter, or, to be amended or written, no standing one: question 12.
+    /// The month is not the next to enter, or, to be amended or written, no standing one: question 12.
     WrongMonth(u16),
-    // The mechanism with this number, the lowest such, does not find the month fit: question 13.
+    /// The mechanism with this number, the lowest such, does not find the month fit: question 13.
     NotFit(usize),
-    // The duty is of a book of another number, or this month is not pending: question 14.
+    /// The duty is of a book of another number, or this month is not pending: question 14.
     NotPending(u16),
-    // The book was not opened: question 15.
+    /// The book was not opened: question 15.
     Opening(OpeningFault),
-    // The buffer is too short: question 16.
+    /// The buffer is too short: question 16.
     Buffer(ShortBuffer),
 }
 

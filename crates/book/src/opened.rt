@@ -3,7 +3,7 @@ use settlement::{Rates, Terms};
 
 mod making;
 
-// Its number, its terms, and the rates last announced.
+/// Its number, its terms, and the rates last announced.
 #[derive(Clone, Copy)]
 pub(crate) struct Opened {
     pub(crate) number: u64,

@@ -2,7 +2,7 @@
 ghost use Rattle.std.specs.Prelude.{◌≡◌};
 ghost use Rattle.book.specs.Places.{of_month};
 
-// What stands for this month, which counts from 1.
+/// What stands for this month, which counts from 1.
 pub(crate) fn of_month<T: Copy>(items: &[T], month: usize) -> Option<T>
     ensures { result ≡ of_month items.now month }
 {

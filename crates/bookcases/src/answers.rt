@@ -49,7 +49,7 @@ fn total_of<S: Schedule>(heap: Global, book: &Book<S>) -> anyhow::Result<String>
     }
 }
 
-// What is outstanding of each mechanism and in all, what is announced, and the standing.
+/// What is outstanding of each mechanism and in all, what is announced, and the standing.
 pub(crate) fn state_of<S: Schedule>(heap: Global, book: &Book<S>) -> anyhow::Result<String> {
     let outstanding = outstanding_of(heap, book)?;
     let total = total_of(heap, book)?;
@@ -70,7 +70,7 @@ fn billed_of<S: Schedule>(heap: Global, book: &Book<S>, month: u16) -> anyhow::R
     row_of(heap, rates.as_slice())
 }
 
-// What a month was billed, what it closed with, and its mark.
+/// What a month was billed, what it closed with, and its mark.
 pub(crate) fn month_of<S: Schedule>(
     heap: Global,
     book: &Book<S>,

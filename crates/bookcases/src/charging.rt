@@ -18,7 +18,7 @@ impl Row {
         Ok(Row { charges, months })
     }
 
-    // Another row, with this cap; this one goes on where the cap is refused.
+    /// Another row, with this cap; this one goes on where the cap is refused.
     pub(crate) fn begin(&mut self, heap: Global, cap: u64) -> anyhow::Result<String> {
         match FourCharges::new(cap) {
             Ok(charges) => {
@@ -30,7 +30,7 @@ impl Row {
         }
     }
 
-    // One month more; a refused one is not taken.
+    /// One month more; a refused one is not taken.
     pub(crate) fn add(&mut self, heap: Global, figures: &str) -> anyhow::Result<String> {
         match Month::new(statement_of(heap, figures)?) {
             Ok(month) => {

@@ -63,7 +63,7 @@ impl Docket {
         })
     }
 
-    // The number of the month that was entered; its duty is kept.
+    /// The number of the month that was entered; its duty is kept.
     pub(crate) fn enter(
         &mut self,
         file: &[u8],
@@ -81,12 +81,12 @@ impl Docket {
         }
     }
 
-    // The number of the month that was amended. No duty is handed out, and those that are kept stay owed.
+    /// The number of the month that was amended. No duty is handed out, and those that are kept stay owed.
     pub(crate) fn amend(&mut self, file: &[u8], answer: &mut Answer) -> Result<u16, BookFault> {
         self.book.amend(file, answer)
     }
 
-    // Files the last month that is pending, and tells its number.
+    /// Files the last month that is pending, and tells its number.
     #[tactic(auto, using(crate::proofs::Kept::keeps_last))]
     pub(crate) fn file_last(&mut self) -> Option<u16>
         ensures { MatchOption result ((self.old ≡ []) × (self.new ≡ [])) (λ _. length self.new + 1 ≡ length self.old) }
@@ -100,7 +100,7 @@ impl Docket {
         }
     }
 
-    // Gives the last month up that is pending, and tells its number.
+    /// Gives the last month up that is pending, and tells its number.
     #[tactic(auto, using(crate::proofs::Kept::keeps_last))]
     pub(crate) fn give_up_last(&mut self) -> Option<u16> {
         let duty = self.duties.pop()?;
@@ -112,8 +112,8 @@ impl Docket {
         }
     }
 
-    // Offers the book a duty that was not kept, to be filed and to be given up, and tells why it is refused each time. A duty that the book would
-    // take for one of its own is not offered.
+    /// Offers the book a duty that was not kept, to be filed and to be given up, and tells why it is refused each time. A duty that the book would
+    /// take for one of its own is not offered.
     pub(crate) fn offer(&mut self, duty: Duty) -> (Option<(BookFault, BookFault)>, Duty)
         ensures { result.1 ≡ duty }
     {
@@ -143,7 +143,7 @@ impl Docket {
         while self.file_last().is_some() {}
     }
 
-    // Another book, closed; the one before is filed.
+    /// Another book, closed; the one before is filed.
     #[tactic(auto, using(crate::proofs::Kept::keeps_none))]
     pub(crate) fn begin(&mut self, heap: Global) -> anyhow::Result<()> {
         self.file_all();

@@ -17,7 +17,7 @@ pub(crate) fn integers_of(heap: Global, text: &str) -> anyhow::Result<Vec<i64>> 
     Ok(numbers)
 }
 
-// The numbers in a row.
+/// The numbers in a row.
 pub(crate) fn row_of(heap: Global, numbers: &[i64]) -> anyhow::Result<String> {
     let mut words = Vec::new(heap);
     for number in numbers {

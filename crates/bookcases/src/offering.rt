@@ -32,7 +32,7 @@ fn post(book: &mut Book<FourCharges>, month: u8) -> Result<(), BookFault> {
     }
 }
 
-// Another book of this number enters months up to this one, whose duty is offered to the docket and then filed with its own book.
+/// Another book of this number enters months up to this one, whose duty is offered to the docket and then filed with its own book.
 pub(crate) fn offer(
     heap: Global,
     docket: &mut Docket,

@@ -5,17 +5,17 @@ ghost use Rattle.charges.specs.Meaning.{LawfulAnswer};
 use crate::limits::{MAX_BASE_RATE, MAX_QUANTITY};
 use bounded::Carries;
 
-// The allowance covers the quantity at the base rate, and would not at one unit more.
+/// The allowance covers the quantity at the base rate, and would not at one unit more.
 #[derive(Clone, Copy)]
 pub struct Assessment {
     pub quantity: u64,
-    // The base rate and the allowance, as the mechanism answered them.
+    /// The base rate and the allowance, as the mechanism answered them.
     pub answer: (u64, u64),
     ghost lawful: { LawfulAnswer quantity answer },
 }
 
 impl Assessment {
-    // None where the answer breaks the law, as no mechanism's does where the months can stand.
+    /// None where the answer breaks the law, as no mechanism's does where the months can stand.
     pub fn new(quantity: u64, answer: (u64, u64)) -> Option<Assessment>
         ensures { MatchOption result (¬ LawfulAnswer quantity answer) (λ a. (a.quantity ≡ quantity) × (a.answer ≡ answer)) }
     {

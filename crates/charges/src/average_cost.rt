@@ -15,7 +15,7 @@ pub struct AverageCost<P> {
     pub purchase: P,
 }
 
-// The average, and what the quantity bears of the cost, both rounded down.
+/// The average, and what the quantity bears of the cost, both rounded down.
 pub(crate) fn averaged(cost: u64, divisor: u64, quantity: u64) -> (u64, u64)
     requires some { 0 < divisor }
     requires fits { cost * quantity < 2 ^ 64 }

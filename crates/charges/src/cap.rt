@@ -6,14 +6,14 @@ use fields::{Layer, Refusal};
 use std::error::Error;
 use std::fmt;
 
-// A cap of at most 5,000.
+/// A cap of at most 5,000.
 #[derive(Clone, Copy)]
 pub(crate) struct Cap {
     pub(crate) hundredths: u64,
     ghost limit: { hundredths ≤ 5000 },
 }
 
-// A cap above 5,000.
+/// A cap above 5,000.
 #[derive(Clone, Copy, Debug, PartialEq, Eq)]
 pub struct CapTooHigh {
     pub cap: u64,

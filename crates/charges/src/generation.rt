@@ -24,7 +24,7 @@ impl Generation {
     }
 }
 
-// The power bought, borne by the input but for what is charged no generation.
+/// The power bought, borne by the input but for what is charged no generation.
 #[derive(Clone, Copy)]
 pub struct PowerSupply;
 

@@ -14,7 +14,7 @@ use crate::priced::Priced;
 use crate::recent::recent_energy;
 use month::Month;
 
-// The two mechanisms whose prices are charged for what is lost, named for those of the resolution, and the cap on the feeder loss.
+/// The two mechanisms whose prices are charged for what is lost, named for those of the resolution, and the cap on the feeder loss.
 #[derive(Drop)]
 pub struct Loss<G, T> {
     generation: G,

@@ -5,18 +5,18 @@ ghost use Rattle.charges.specs.Meaning.{Meaning, Lawful};
 
 use month::Month;
 
-// One pass-through charge. Asking leaves it as it is, and every month has an answer, fit or not.
+/// One pass-through charge. Asking leaves it as it is, and every month has an answer, fit or not.
 pub trait Mechanism {
     ghost meaning: { Self → Meaning };
 
     fn is_fit(&self, month: &Month) -> bool
         ensures { result ≡ (meaning self.now).fit (figures month.now) };
 
-    // What the month is billed on.
+    /// What the month is billed on.
     fn quantity(&self, month: &Month) -> u64
         ensures { result ≡ (meaning self.now).quantity (figures month.now) };
 
-    // The base rate and the allowance of the last month, as a pair: they are answered together.
+    /// The base rate and the allowance of the last month, as a pair: they are answered together.
     fn assess(&self, months: &[Month]) -> (u64, u64)
         ensures { result ≡ (meaning self.now).assessed (map figures months.now) };
 

@@ -6,7 +6,7 @@ ghost use Rattle.month.specs.View.{figures};
 
 use month::Month;
 
-// A purchase: its cost in units, and the divisor, which is the input in kWh that bears it.
+/// A purchase: its cost in units, and the divisor, which is the input in kWh that bears it.
 pub trait Purchase {
     ghost cost: { Self → Figures → ℕ };
 

@@ -9,7 +9,7 @@ use crate::assessment::Assessment;
 use bounded::rolling_total;
 use month::{Energy, Month};
 
-// Input and losses of the latest twelve months, or of fewer when fewer stand.
+/// Input and losses of the latest twelve months, or of fewer when fewer stand.
 #[tactic(auto, using(crate::specs::Energies::twelve_total, crate::specs::Energies::recent_kept))]
 pub fn recent_energy(months: &[Month]) -> Energy
     ensures is { result ≡ twelve_months (map figures months.now) }
@@ -20,7 +20,7 @@ pub fn recent_energy(months: &[Month]) -> Energy
     rolling_total(months, 12)
 }
 
-// The allowances of the latest three months, or of fewer when fewer stand.
+/// The allowances of the latest three months, or of fewer when fewer stand.
 pub fn recent_allowances(assessments: &[Assessment]) -> u64
     ensures { result ≡ sum_by allowance_of (latest 3 assessments.now) }
 {

@@ -24,7 +24,7 @@ impl Transmission {
     }
 }
 
-// The transmission bought, borne by the input but for what is charged no transmission.
+/// The transmission bought, borne by the input but for what is charged no transmission.
 #[derive(Clone, Copy)]
 pub struct TransmissionService;
 

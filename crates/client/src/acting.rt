@@ -11,7 +11,7 @@ use crate::outcome::Outcome;
 use book::{Answer, Book, ReturnedDuty};
 use schedule::Schedule;
 
-// Makes the call, and tells what it came to.
+/// Makes the call, and tells what it came to.
 pub fn act<S: Schedule>(book: &mut Book<S>, call: Call) -> Outcome
     ensures schedule { book.new.schedule ≡ book.old.schedule }
     ensures acted { Acted (S.Schedule.meaning book.old.schedule) book.old.account call result book.new.account }

@@ -13,10 +13,10 @@ use book::{Book, BookFault, Opening, ReturnedDuty};
 use schedule::Schedule;
 use std::collections::VecDeque;
 
-// Enters month files in their order, and files each month before the next is entered. A duty that comes back, as none does in its run, is given up.
+/// Enters month files in their order, and files each month before the next is entered. A duty that comes back, as none does in its run, is given up.
 #[derive(Drop)]
 pub struct Prompt {
-    // Those that are still to be entered.
+    /// Those that are still to be entered.
     pub files: VecDeque<Vec<u8>>,
 }
 
@@ -35,7 +35,7 @@ impl<S: Schedule> Client<S> for Prompt {
     }
 }
 
-// The run of a prompt client. Where the client ends it, every file was sent, and no filing is pending.
+/// The run of a prompt client. Where the client ends it, every file was sent, and no filing is pending.
 pub fn run_promptly<S: Schedule>(
     book: &mut Book<S>,
     opening: &Opening,

@@ -9,9 +9,9 @@ use crate::outcome::Outcome;
 use book::{Book, BookFault, Opening};
 use schedule::Schedule;
 
-// Opens the book, and makes the calls that the client chooses, each by what the one before it came to and what the book then tells: so many, or until
-// the client ends the run.
-// What the last call came to is answered where the client was not told it.
+/// Opens the book, and makes the calls that the client chooses, each by what the one before it came to and what the book then tells: so many, or until
+/// the client ends the run.
+/// What the last call came to is answered where the client was not told it.
 pub fn run<S: Schedule, C: Client<S>>(
     book: &mut Book<S>,
     opening: &Opening,
@@ -20,7 +20,8 @@ pub fn run<S: Schedule, C: Client<S>>(
 ) -> Result<Option<Outcome>, BookFault>
     ensures schedule { book.new.schedule ≡ book.old.schedule }
     ensures cases { MatchResult result
-        (λ untold. Run C.Client.answers (S.Schedule.meaning book.old.schedule) (given opening.now) most client.old client.new untold book.old.account book.new.account)
+        (λ untold. Run C.Client.answers (S.Schedule.meaning book.old.schedule) (given opening.now) most client.old client.new
+        untold book.old.account book.new.account)
         (λ e. NotOpened (length (S.Schedule.meaning book.old.schedule)) book.old.account (given opening.now) e) }
     ensures refused { OnErr result ((book.new ≡ book.old) × (client.new ≡ client.old)) }
 {

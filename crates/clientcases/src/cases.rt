@@ -5,13 +5,13 @@ pub(crate) struct Case {
     pub(crate) name: &'static str,
     pub(crate) seed: u64,
     pub(crate) cap: u64,
-    // The numbers of the two books.
+    /// The numbers of the two books.
     pub(crate) first: u64,
     pub(crate) second: u64,
     pub(crate) spread: u64,
     pub(crate) rates: [u64; 4],
     pub(crate) balances: [i64; 4],
-    // After so many calls the client ends a run, and after so many a run is cut off.
+    /// After so many calls the client ends a run, and after so many a run is cut off.
     pub(crate) calls: u64,
     pub(crate) most: usize,
 }

@@ -13,11 +13,11 @@ use schedule::FourCharges;
 pub(crate) enum Ending {
     NotOpened(BookFault),
     ByTheClient,
-    // What the last call came to.
+    /// What the last call came to.
     CutOff(Told),
 }
 
-// Gives the duty up with the one book, or with the other where that refuses it.
+/// Gives the duty up with the one book, or with the other where that refuses it.
 pub(crate) fn let_go(duty: Duty, one: &mut Book<FourCharges>, other: &mut Book<FourCharges>)
     requires { Covered (duty ∷ []) one.old.account other.old.account }
     ensures { (ds : List Duty) → Covered (duty ∷ ds) one.old.account other.old.account → Covered ds one.new.account other.new.account }
@@ -33,7 +33,7 @@ pub(crate) fn let_go(duty: Duty, one: &mut Book<FourCharges>, other: &mut Book<F
     }
 }
 
-// Runs the client on the book, and tells how that ended. A duty that the client was not told of is given up.
+/// Runs the client on the book, and tells how that ended. A duty that the client was not told of is given up.
 pub(crate) fn run_through<C: Keeper>(
     opening: &Opening,
     most: usize,

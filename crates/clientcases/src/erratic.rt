@@ -103,7 +103,7 @@ impl Erratic {
         }
     }
 
-    // Gives up the duties that are left, and hands over what it was told.
+    /// Gives up the duties that are left, and hands over what it was told.
     pub(crate) fn close(
         self,
         book: &mut Book<FourCharges>,

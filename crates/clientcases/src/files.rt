@@ -1,7 +1,7 @@
 // Month files, with flaws and without.
 use std::alloc::{AllocError, Global};
 
-// What differs from month to month.
+/// What differs from month to month.
 #[derive(Clone, Copy)]
 pub(crate) struct Figures {
     pub(crate) cost: u64,
@@ -20,13 +20,13 @@ pub(crate) struct Figures {
 #[derive(Clone, Copy, PartialEq, Eq)]
 pub(crate) enum Flaw {
     None,
-    // Question 13, where members have a lifeline discount.
+    /// Question 13, where members have a lifeline discount.
     OneKwhSold,
-    // Question 10.
+    /// Question 10.
     MostIsLost,
-    // Question 1, at the last field.
+    /// Question 1, at the last field.
     CutShort,
-    // Question 2, there too.
+    /// Question 2, there too.
     WrongTag,
 }
 

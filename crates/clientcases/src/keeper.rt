@@ -9,7 +9,7 @@ ghost use Rattle.clientcases.specs.Covering.{MakesNone};
 use client::Client;
 use schedule::FourCharges;
 
-// A client that makes no duty of its own.
+/// A client that makes no duty of its own.
 pub(crate) trait Keeper: Client<FourCharges> {
     // The duties that it keeps from one call to the next.
     ghost keeps: { Self → List Duty };

@@ -67,7 +67,7 @@ pub(crate) fn ending_line(heap: Global, ended: &Ending) -> anyhow::Result<String
     }
 }
 
-// The marks once no duty is left.
+/// The marks once no duty is left.
 pub(crate) fn book_line(heap: Global, book: &Book<FourCharges>) -> anyhow::Result<String> {
     let letters = letters_of(heap, &book.marks())?;
     let standing = book.standing();

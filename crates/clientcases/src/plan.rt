@@ -42,7 +42,7 @@ impl Plan {
         }
     }
 
-    // Whether there is a call left, which is made then.
+    /// Whether there is a call left, which is made then.
     pub(crate) fn goes_on(&mut self) -> bool {
         if self.left == 0 {
             return false;
@@ -51,7 +51,7 @@ impl Plan {
         true
     }
 
-    // One of so many numbers from 0 on.
+    /// One of so many numbers from 0 on.
     pub(crate) fn draw(&mut self, count: u64) -> u64
         requires { 0 < count }
         ensures { result < count }
@@ -59,7 +59,7 @@ impl Plan {
         u64::from(self.chance.next_u32()) % count
     }
 
-    // Mostly the next month is entered or a month amended that stands, but any month may be sent, and a file with a flaw.
+    /// Mostly the next month is entered or a month amended that stands, but any month may be sent, and a file with a flaw.
     pub(crate) fn send(&mut self, drawn: u64) -> Result<Call, AllocError>
         ensures { IfOk result (λ call. sent (Some call) ≡ []) }
     {

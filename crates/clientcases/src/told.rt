@@ -9,12 +9,12 @@ use client::Outcome;
 #[derive(Clone, Copy)]
 pub(crate) enum Told {
     Opened,
-    // The marks before the call, and the number of the month.
+    /// The marks before the call, and the number of the month.
     Entered(Marks, u16, Answer),
     Amended(Marks, Answer, u16),
     Spent,
     Refused(BookFault),
-    // The numbers of the duty's book and month.
+    /// The numbers of the duty's book and month.
     Returned(BookFault, u64, u16),
 }
 

@@ -4,7 +4,7 @@ ghost use Rattle.examples.specs.GrowingFees.{growing_fee, growing_fee_lawful};
 use charges::Mechanism;
 use month::Month;
 
-// 250,000 per kWh sold for each month that stands.
+/// 250,000 per kWh sold for each month that stands.
 #[derive(Clone, Copy)]
 pub(crate) struct GrowingFee;
 

@@ -5,7 +5,7 @@ use std::alloc::Global;
 use std::process::Abort;
 use std::test::Fail;
 
-// A book of the four charges, open.
+/// A book of the four charges, open.
 pub(crate) fn opened(heap: Global, number: u64) -> Result<Book<FourCharges>, Fail> {
     let mut book = Book::new(heap, FourCharges::new(500)?)?;
     book.open(&Opening {
@@ -17,7 +17,7 @@ pub(crate) fn opened(heap: Global, number: u64) -> Result<Book<FourCharges>, Fai
     Ok(book)
 }
 
-// A duty has to be filed: it cannot be let go.
+/// A duty has to be filed: it cannot be let go.
 pub(crate) fn file<S: Schedule>(rt: &impl Abort, book: &mut Book<S>, duty: Duty) {
     match book.file(duty) {
         Ok(()) => {}
@@ -25,7 +25,7 @@ pub(crate) fn file<S: Schedule>(rt: &impl Abort, book: &mut Book<S>, duty: Duty)
     }
 }
 
-// Enters a month and files it at once.
+/// Enters a month and files it at once.
 pub(crate) fn post<S: Schedule>(
     book: &mut Book<S>,
     file: &[u8],

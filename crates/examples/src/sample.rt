@@ -1,5 +1,5 @@
-// The file of the sample month.
-// The number of the month ends at byte 4.
+/// The file of the sample month.
+/// The number of the month ends at byte 4.
 pub(crate) const SAMPLE: [u8; 167] = *b"\
     \x01\x00\x02\x00\x01\
     \x02\x00\x18\x00\x00\x00\x00\x03\x93\x87\x00\x00\x00\x00\x00\x00\x06\x1a\x80\x00\x00\x00\x00\x00\x00\x00\x00\

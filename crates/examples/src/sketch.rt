@@ -3,7 +3,7 @@ use bounded::UpTo;
 use month::{Bracket, Energy, Exempt, Month, Sales, Source, Statement};
 use std::test::Fail;
 
-// One source and one bracket, no discount on transmission, and no input that is charged nothing.
+/// One source and one bracket, no discount on transmission, and no input that is charged nothing.
 #[derive(Clone, Copy)]
 pub(crate) struct Sketch {
     pub source: Source,

@@ -12,28 +12,28 @@ use std::fmt;
 
 #[derive(Clone, Copy, Debug, PartialEq, Eq)]
 pub enum FileFault {
-    // A due field cannot be read.
+    /// A due field cannot be read.
     Field(FieldFault),
-    // Bytes follow the last field, from this offset on.
+    /// Bytes follow the last field, from this offset on.
     GoesOn(usize),
 }
 
-// All but the first hold the tag of the field that they are told of.
+/// All but the first hold the tag of the field that they are told of.
 #[derive(Clone, Copy, Debug, PartialEq, Eq)]
 pub enum MonthFault {
-    // The bytes are no month file.
+    /// The bytes are no month file.
     File(FileFault),
-    // A number is outside its limit.
+    /// A number is outside its limit.
     OutsideLimit(Tag),
-    // A discount passed on is above the discount taken.
+    /// A discount passed on is above the discount taken.
     PassedOnAboveTaken(Tag),
-    // The source costs sum to more than a single cost may be.
+    /// The source costs sum to more than a single cost may be.
     CostsTooHigh(Tag),
-    // The cost to recover is below zero.
+    /// The cost to recover is below zero.
     CostBelowZero(Tag),
-    // More than half the input is lost, or none of it is charged generation, or transmission.
+    /// More than half the input is lost, or none of it is charged generation, or transmission.
     EnergyInconsistent(Tag),
-    // Nothing is sold at the full rate, or more is sold than the input that is charged.
+    /// Nothing is sold at the full rate, or more is sold than the input that is charged.
     SalesInconsistent(Tag),
 }
 

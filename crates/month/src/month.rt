@@ -11,8 +11,8 @@ use crate::within::WithinLimits;
 mod amounts;
 mod making;
 
-// Question 6, and questions 7 to 11, are answered yes. Contracts see it through `figures`: an `impl Model` of a `Copy` struct has to give
-// all fields back, and figures do not tell what stands past the end of a list.
+/// Question 6, and questions 7 to 11, are answered yes. Contracts see it through `figures`: an `impl Model` of a `Copy` struct has to give
+/// all fields back, and figures do not tell what stands past the end of a list.
 #[derive(Clone, Copy)]
 pub struct Month {
     within: WithinLimits,

@@ -5,7 +5,7 @@ ghost use Rattle.bounded.specs.View.{held};
 use crate::parts::{Bracket, Energy, Exempt, Sales, Source};
 use bounded::UpTo;
 
-// One to eight power sources and at most four lifeline brackets, with the pilferage recovery in centavos.
+/// One to eight power sources and at most four lifeline brackets, with the pilferage recovery in centavos.
 #[derive(Clone, Copy)]
 pub struct Statement {
     pub month: u16,

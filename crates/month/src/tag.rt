@@ -4,7 +4,7 @@ ghost use Rattle.month.specs.Tags.{tag_number};
 
 use std::fmt;
 
-// Each is headed by a number of its own.
+/// Each is headed by a number of its own.
 #[derive(Clone, Copy, Debug, PartialEq, Eq)]
 pub enum Tag {
     Month = 1,

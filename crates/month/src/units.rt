@@ -4,7 +4,7 @@ ghost use Rattle.month.specs.UnitWords.{units_words};
 
 use std::fmt;
 
-// An amount in units of a ten-thousandth of a peso, told in pesos too.
+/// An amount in units of a ten-thousandth of a peso, told in pesos too.
 #[derive(Clone, Copy, Debug, PartialEq, Eq)]
 pub struct Units(pub u64);
 

@@ -10,7 +10,7 @@ mod limits;
 mod rules;
 mod sums;
 
-// Question 6 is answered yes: no fault is the first. A ghost field wants a fact with one proof, such as an equation of two truth values.
+/// Question 6 is answered yes: no fault is the first. A ghost field wants a fact with one proof, such as an equation of two truth values.
 #[derive(Clone, Copy)]
 pub(crate) struct WithinLimits {
     pub(crate) statement: Statement,

@@ -4,7 +4,7 @@ ghost use Rattle.monthfile.specs.Layout.{source_numbers, energy_numbers, bracket
 
 use month::{Bracket, Energy, Exempt, Sales, Source};
 
-// Figures that are K numbers, in the order of the file.
+/// Figures that are K numbers, in the order of the file.
 pub(crate) trait Entry<const K: usize> {
     ghost numbers: { Self → List ℕ };
 

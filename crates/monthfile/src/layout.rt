@@ -34,7 +34,7 @@ fn due_fields() -> [Due; 7]
     ]
 }
 
-// The values of the fields, in the order of their tags.
+/// The values of the fields, in the order of their tags.
 #[derive(Clone, Copy)]
 pub(crate) struct Values<'a> {
     pub month: &'a [u8],
@@ -46,9 +46,11 @@ pub(crate) struct Values<'a> {
     pub sales: &'a [u8],
 }
 
-// The values of a file that is made of these fields and nothing else.
+/// The values of a file that is made of these fields and nothing else.
 pub(crate) fn read_values<'a>(file: &'a [u8]) -> Result<Values<'a>, FileFault>
-    ensures { MatchResult result (λ v. MadeOf file.now v.month.now v.sources.now v.pilferage.now v.transmission.now v.energy.now v.brackets.now v.sales.now) (λ e. first_no (file_asked file.now) ≡ Some e) }
+    ensures { MatchResult result
+        (λ v. MadeOf file.now v.month.now v.sources.now v.pilferage.now v.transmission.now v.energy.now v.brackets.now v.sales.now)
+        (λ e. first_no (file_asked file.now) ≡ Some e) }
 {
     let mut reader = Reader::new(file);
     // Each is replaced below, by its index: no proof knows what an `iter_mut` under a `zip` wrote.

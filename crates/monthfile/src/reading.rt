@@ -33,7 +33,7 @@ fn read_statement(file: &[u8]) -> Result<Statement, FileFault>
     })
 }
 
-// The month that the file states, or the first question of 1 to 11 that is answered no.
+/// The month that the file states, or the first question of 1 to 11 that is answered no.
 pub fn read_month(file: &[u8]) -> Result<Month, MonthFault>
     ensures cases { MatchResult result (λ m. Accepted file.now m) (λ e. Refused file.now e) }
     ensures valid_file { (f : Figures) → Valid f → file.now ≡ file_of f → MatchResult result (λ m. figures m ≡ f) (λ e. ⊥) }

@@ -19,7 +19,7 @@ fn number_in(part: &[u8]) -> u64
     n
 }
 
-// The month's number, in two bytes.
+/// The month's number, in two bytes.
 pub(crate) fn read_month_number(part: &[u8]) -> u16
     requires { length part.now ≡ 2 }
     ensures { part.now ≡ be 2 result }
@@ -27,7 +27,7 @@ pub(crate) fn read_month_number(part: &[u8]) -> u16
     number_in(part) as u16
 }
 
-// The figures that a part is.
+/// The figures that a part is.
 pub(crate) fn read_entry<const K: usize, E: Entry<K>>(part: &[u8]) -> E
     requires { length part.now ≡ 8 * K }
     ensures { part.now ≡ bytes_by E.numbers result }
@@ -38,7 +38,7 @@ pub(crate) fn read_entry<const K: usize, E: Entry<K>>(part: &[u8]) -> E
     E::of(&numbers)
 }
 
-// Entries of three numbers, one after another.
+/// Entries of three numbers, one after another.
 pub(crate) fn read_list<E: Entry<3> + Copy + Default, const N: usize>(part: &[u8]) -> UpTo<E, N>
     requires whole { length part.now % 24 ≡ 0 }
     requires few { length part.now ≤ 24 * N }

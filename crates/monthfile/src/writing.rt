@@ -65,7 +65,7 @@ fn file_of(statement: &Statement) -> FileBytes
     file
 }
 
-// Fills the start of the buffer, which is lent, with the month's file and answers its length; a short buffer is refused and left as it was.
+/// Fills the start of the buffer, which is lent, with the month's file and answers its length; a short buffer is refused and left as it was.
 pub fn write_month(month: &Month, buffer: &mut [u8]) -> Result<usize, ShortBuffer>
     ensures cases { MatchResult result (λ n. Wrote buffer.old buffer.new n (file_of (figures month.now))) (λ e. Short buffer.old buffer.new e) }
     ensures gives_back { IfOk result (λ n. WroteBack month.now buffer.new n) }

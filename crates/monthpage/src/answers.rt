@@ -38,7 +38,7 @@ fn put_answer<S: Schedule>(
     Ok(true)
 }
 
-// The lines of all, and whether each finds the month fit.
+/// The lines of all, and whether each finds the month fit.
 pub(crate) fn put_answers(
     page: &mut String,
     charges: &FourCharges,

@@ -7,7 +7,7 @@ use anyhow::{Context, bail};
 // Where no argument gives one, in hundredths of a percent.
 const USUAL_CAP: u64 = 500;
 
-// The cap that the arguments give: one number, or none for the usual cap.
+/// The cap that the arguments give: one number, or none for the usual cap.
 pub fn cap_of(words: &[String]) -> anyhow::Result<u64>
     ensures { GivesCap (map string_bytes words.now) result }
 {

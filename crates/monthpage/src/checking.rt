@@ -14,7 +14,7 @@ use schedule::FourCharges;
 use std::alloc::{AllocError, Global};
 use std::fmt::Display;
 
-// The page, and whether nothing is refused and each of the four charges finds the month fit.
+/// The page, and whether nothing is refused and each of the four charges finds the month fit.
 #[derive(Drop)]
 pub struct Checked {
     pub page: String,
@@ -58,7 +58,7 @@ fn answered(
     Ok(Checked { page, good })
 }
 
-// The cap is asked about before the file is read.
+/// The cap is asked about before the file is read.
 pub fn check(heap: Global, cap: u64, file: &[u8]) -> Result<Checked, AllocError>
     ensures cases { IfOk result (λ c. Checks cap file.now (string_bytes c.page) c.good) }
     // No other page is that of the file and the cap, and no other answer.

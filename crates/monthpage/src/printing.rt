@@ -19,7 +19,7 @@ fn exit_code(good: bool) -> ExitCode
     }
 }
 
-// Reads a month file to its end and prints its page.
+/// Reads a month file to its end and prints its page.
 pub fn print_page<R: Read, W: Write>(
     heap: Global,
     cap: u64,

@@ -3,7 +3,8 @@
 ghost use Rattle.std.specs.Prelude.{◌≡◌, [], ◌∷◌, ◌++◌, IfSome, OnOk, string_bytes};
 ghost use Rattle.month.specs.Stated.{stated};
 ghost use Rattle.month.specs.View.{figures};
-ghost use Rattle.monthpage.specs.Lines.{line, text, costs_line, figure_line, bracket_line, units_line, cost_lines, energy_lines, sales_lines, amount_lines, month_lines};
+ghost use Rattle.monthpage.specs.Lines.{line, text, costs_line, figure_line, bracket_line, units_line};
+ghost use Rattle.monthpage.specs.Lines.{cost_lines, energy_lines, sales_lines, amount_lines, month_lines};
 
 use month::{Bracket, Month, Source, Statement, Units};
 use std::alloc::AllocError;
@@ -38,7 +39,7 @@ fn put_source<N: Display + Drop>(
     )
 }
 
-// A line of these words.
+/// A line of these words.
 #[tactic(auto, unfolding(crate::specs::Lines::line))]
 pub(crate) fn put_line<T: Display + Drop>(page: &mut String, words: T) -> Result<(), AllocError>
     ensures { OnOk result (IfSome (T.output words) (λ words. string_bytes page.new ≡ string_bytes page.old
@@ -47,7 +48,7 @@ pub(crate) fn put_line<T: Display + Drop>(page: &mut String, words: T) -> Result
     writeln!(page, "{words}")
 }
 
-// A figure, after its name and before its unit.
+/// A figure, after its name and before its unit.
 #[tactic(auto, unfolding(crate::specs::Lines::line))]
 pub(crate) fn put_figure(
     page: &mut String,

@@ -6,7 +6,7 @@ use printed::NewBook;
 use std::alloc::Global;
 use std::io::{Read, Write};
 
-// Reads a stream of frames to its end, works them on a new book and prints their lines; where memory lacks in the run, the lines before it.
+/// Reads a stream of frames to its end, works them on a new book and prints their lines; where memory lacks in the run, the lines before it.
 pub(crate) fn print_run<R: Read, W: Write>(
     heap: Global,
     input: &mut R,

@@ -10,7 +10,7 @@ pub enum Call {
 }
 
 impl Call {
-    // What a line begins with that tells of the call.
+    /// What a line begins with that tells of the call.
     pub fn letter(self) -> &'static str
         ensures { result.now ≡ call_letter self }
     {

@@ -6,7 +6,7 @@ use book::Book;
 use schedule::FourCharges;
 use std::alloc::{AllocError, Global};
 
-// A closed book over charges with a cap of 0; an opening frame brings others.
+/// A closed book over charges with a cap of 0; an opening frame brings others.
 pub fn closed_book(heap: Global) -> Result<Book<FourCharges>, AllocError>
     ensures { IfOk result (λ b. state_of b ≡ closed) }
 {

@@ -25,7 +25,7 @@ const ENTRY: Due = Due {
 // As of an entry.
 const AMENDMENT: Due = Due { tag: 17, ..ENTRY };
 
-// A stream, and how far its frames have been read.
+/// A stream, and how far its frames have been read.
 #[derive(Drop)]
 pub struct Frames<'a> {
     reader: Reader<'a>,
@@ -41,7 +41,7 @@ impl<'a> Frames<'a> {
         }
     }
 
-    // The next frame, or None at the end of the stream; where no frame is next, nothing is read.
+    /// The next frame, or None at the end of the stream; where no frame is next, nothing is read.
     pub fn read(&mut self) -> Result<Option<Frame<'a>>, NoFrame>
         ensures stream { stream self.new ≡ stream self.old }
         ensures cases { MatchResult result

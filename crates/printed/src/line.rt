@@ -10,22 +10,22 @@ use book::Answer;
 use fields::{Refusal, ShortBuffer, ask_room, put};
 use std::alloc::AllocError;
 
-// What is told of a frame, or of the offset where none begins.
+/// What is told of a frame, or of the offset where none begins.
 #[derive(Clone, Copy)]
 pub enum Line {
-    // The number of the book.
+    /// The number of the book.
     Opened(u64),
-    // The number of the month, and the book's answer.
+    /// The number of the month, and the book's answer.
     Entered(u16, Answer),
-    // The number of the month that was replaced, and the book's answer.
+    /// The number of the month that was replaced, and the book's answer.
     Amended(u16, Answer),
     Refused(Call, Refusal),
-    // The offset in the stream where a frame was due.
+    /// The offset in the stream where a frame was due.
     NoFrame(usize),
 }
 
 impl Line {
-    // What the line begins with.
+    /// What the line begins with.
     pub fn letter(&self) -> &'static str
         ensures { result.now ≡ letter self.now }
     {
@@ -38,7 +38,7 @@ impl Line {
         }
     }
 
-    // Fills the start of the lent buffer with the line, and answers how many bytes it has; a short buffer is refused and left as it was.
+    /// Fills the start of the lent buffer with the line, and answers how many bytes it has; a short buffer is refused and left as it was.
     #[tactic(auto, using(crate::proofs::Numerals::numbers_read_back, crate::proofs::Lines::one_line))]
     pub fn write(&self, buffer: &mut [u8]) -> Result<usize, ShortBuffer>
         ensures cases { MatchResult result (λ n. Wrote buffer.old buffer.new n (line_bytes self.now)) (λ e. Short buffer.old buffer.new e) }
@@ -56,7 +56,7 @@ impl Line {
         Ok(length)
     }
 
-    // Appends the line. It fails only where there is no room for the line, so not where there was room for any.
+    /// Appends the line. It fails only where there is no room for the line, so not where there was room for any.
     pub(crate) fn append_to(&self, output: &mut Vec<u8>) -> Result<(), AllocError>
         ensures appended { output.new.items ≡ (if is_ok result then output.old.items ++ line_bytes self.now else output.old.items) }
         ensures capacity { vec_capacity output.old ≤ vec_capacity output.new }

@@ -11,7 +11,7 @@ use schedule::FourCharges;
 use std::alloc::{AllocError, Global};
 use std::marker::Model;
 
-// A book that no frame was worked on, so that it is closed.
+/// A book that no frame was worked on, so that it is closed.
 #[derive(Drop)]
 pub struct NewBook {
     book: Book<FourCharges>,
@@ -39,7 +39,7 @@ impl NewBook {
         })
     }
 
-    // The run of this book, as `write_run` has it; the book that it leaves is handed back.
+    /// The run of this book, as `write_run` has it; the book that it leaves is handed back.
     pub fn run(self, input: &[u8], output: &mut Vec<u8>) -> Result<Book<FourCharges>, AllocError>
         // The output is that of a run, and the facts hold of the book by the journal of its exchanges. Where memory lacks the run broke off, and the
         // same holds of its exchanges.

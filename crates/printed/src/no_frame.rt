@@ -1,8 +1,8 @@
 // Where the stream goes on with no frame.
 use fields::FieldFault;
 
-// The offset of a head with which no frame begins: the head is not all there, its tag names no frame, its length is not that of an opening, or the
-// value is cut short.
+/// The offset of a head with which no frame begins: the head is not all there, its tag names no frame, its length is not that of an opening, or the
+/// value is cut short.
 #[derive(Clone, Copy, Debug, PartialEq, Eq)]
 pub struct NoFrame {
     pub at: usize,

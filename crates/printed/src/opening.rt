@@ -9,10 +9,10 @@ ghost use Rattle.printed.specs.Frames.Framed.{Opens};
 use book::Opening;
 use fields::numbers_in;
 
-// As many starting rates and opening balances as the schedule of the four charges has mechanisms.
+/// As many starting rates and opening balances as the schedule of the four charges has mechanisms.
 pub(crate) const CHARGES: usize = 4;
 
-// Any figures may stand here: opening asks about them. The cap on the feeder loss is in hundredths of a percent.
+/// Any figures may stand here: opening asks about them. The cap on the feeder loss is in hundredths of a percent.
 #[derive(Clone, Copy)]
 pub struct OpeningFrame {
     pub cap: u64,
@@ -48,7 +48,7 @@ fn numbers_of<const K: usize>(part: &[u8]) -> [u64; K]
 }
 
 impl OpeningFrame {
-    // The numbers that a value states.
+    /// The numbers that a value states.
     pub(crate) fn read(value: &[u8]) -> OpeningFrame
         requires { length value.now ≡ 88 }
         ensures states { value.now ≡ opening_value result.cap (given_by result) }
@@ -66,7 +66,7 @@ impl OpeningFrame {
         }
     }
 
-    // What a book is opened with.
+    /// What a book is opened with.
     pub fn opening(&self) -> Opening<'_>
         ensures { given result ≡ given_by self.now }
     {

@@ -7,15 +7,15 @@ ghost use Rattle.printed.specs.Runs.{line_of, duty_of};
 use crate::line::Line;
 use book::{Answer, Duty};
 
-// The line that tells it, and of an accepted entry the duty to file its month. Both are private to this module, and `tell` is the one way out: a month
-// is filed by its duty, so none is filed whose line has not been told. Since it may hold a duty, it is neither `Drop`, `Clone` nor `Copy`.
+/// The line that tells it, and of an accepted entry the duty to file its month. Both are private to this module, and `tell` is the one way out: a month
+/// is filed by its duty, so none is filed whose line has not been told. Since it may hold a duty, it is neither `Drop`, `Clone` nor `Copy`.
 pub struct Outcome {
     line: Line,
     duty: Option<Duty>,
 }
 
 impl Outcome {
-    // Of any frame but an accepted entry.
+    /// Of any frame but an accepted entry.
     pub(crate) fn told(line: Line) -> Outcome
         ensures { result ≡ record { line = line; duty = None } }
     {
@@ -31,7 +31,7 @@ impl Outcome {
         }
     }
 
-    // Appends the line to the output, and then answers the duty. Where memory lacks, the output has what it had, and the outcome comes back.
+    /// Appends the line to the output, and then answers the duty. Where memory lacks, the output has what it had, and the outcome comes back.
     pub fn tell(self, output: &mut Vec<u8>) -> Result<Option<Duty>, Outcome>
         ensures cases { MatchResult result
             (λ duty. (output.new.items ≡ output.old.items ++ line_bytes (line_of self)) × (duty ≡ duty_of self))

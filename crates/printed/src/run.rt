@@ -58,9 +58,9 @@ fn run_frames(
     }
 }
 
-// Works the frames of the input one after another, appends a line for each, and files the month that it entered; where no frame is next, a last line
-// tells its offset. Room for a line is taken before its frame is worked, so where memory lacks for that, the output has the lines of the frames that were
-// worked, and the book is that after them.
+/// Works the frames of the input one after another, appends a line for each, and files the month that it entered; where no frame is next, a last line
+/// tells its offset. Room for a line is taken before its frame is worked, so where memory lacks for that, the output has the lines of the frames that were
+/// worked, and the book is that after them.
 pub fn write_run(
     book: &mut Book<FourCharges>,
     input: &[u8],

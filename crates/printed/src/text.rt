@@ -13,8 +13,8 @@ use fields::Refusal;
 use itoa::{Buffer, Integer};
 use settlement::Rate;
 
-// More than any line has: a letter, up to eleven numbers of up to 40 bytes, each after a space, a standing, and the end of the line. So this is the room
-// that is taken for a line before it is known what it tells.
+/// More than any line has: a letter, up to eleven numbers of up to 40 bytes, each after a space, a standing, and the end of the line. So this is the room
+/// that is taken for a line before it is known what it tells.
 pub(crate) const LONGEST: usize = 512;
 
 // A line while it is written, field after field.

@@ -61,8 +61,8 @@ fn amend(book: &mut Book<FourCharges>, file: &[u8]) -> Result<(u16, Answer), Boo
     Ok((month, answer))
 }
 
-// What the frame asks for is done to the book, or refused. The outcome has the line that tells of it, and with that of an accepted entry the duty to file
-// its month, which is pending until then. A clause that speaks of the state once that duty is filed has a name that says so.
+/// What the frame asks for is done to the book, or refused. The outcome has the line that tells of it, and with that of an accepted entry the duty to file
+/// its month, which is pending until then. A clause that speaks of the state once that duty is filed has a name that says so.
 pub fn work(book: &mut Book<FourCharges>, frame: &Frame) -> Outcome
     ensures works_once_filed { Works (state_of book.old) (framed frame.now) (line_of result) (once_filed (duty_of result) (state_of book.new)) }
     ensures duty { duty_of result ≡ handed_out (line_of result) book.new.account }

@@ -4,7 +4,7 @@ use std::alloc::{AllocError, Global};
 use std::fmt::Display;
 use std::io::Write;
 
-// The run has a book of its own, closed at first.
+/// The run has a book of its own, closed at first.
 pub(crate) fn lines_of(heap: Global, stream: &[u8]) -> Result<Vec<u8>, AllocError> {
     let mut book = closed_book(heap)?;
     let mut lines = Vec::new(heap);
@@ -12,7 +12,7 @@ pub(crate) fn lines_of(heap: Global, stream: &[u8]) -> Result<Vec<u8>, AllocErro
     Ok(lines)
 }
 
-// The lines, below a heading.
+/// The lines, below a heading.
 pub(crate) fn print_lines(
     rt: &HostRuntime,
     heading: impl Display + Drop,

@@ -17,14 +17,14 @@ type Purchases = Joined<Single<Generation>, Single<Transmission>>;
 
 type LossAndLifeline = Joined<Single<Loss<Generation, Transmission>>, Single<Lifeline>>;
 
-// The schedule of generation, transmission, loss over these two, and lifeline, in this order.
+/// The schedule of generation, transmission, loss over these two, and lifeline, in this order.
 #[derive(Drop)]
 pub struct FourCharges {
     row: Joined<Purchases, LossAndLifeline>,
 }
 
 impl FourCharges {
-    // The cap on the feeder loss is in hundredths of a percent.
+    /// The cap on the feeder loss is in hundredths of a percent.
     pub fn new(cap: u64) -> Result<FourCharges, CapTooHigh>
         ensures { MatchResult result (λ s. (cap ≤ 5000) × (⟦<FourCharges as Schedule>⟧.meaning s ≡ four_charges cap)) (λ e. NotMade cap e) }
     {

@@ -10,7 +10,7 @@ const MAX_OPENING_BALANCE: i64 = 1_000_000_000_000;
 // A correction is spread over up to this many months.
 const MAX_SPREAD: u64 = 12;
 
-// A rate as it is announced and billed, in units per kWh. Below zero where a correction outweighs the base rate.
+/// A rate as it is announced and billed, in units per kWh. Below zero where a correction outweighs the base rate.
 #[derive(Clone, Copy)]
 pub struct Rate {
     pub units: i64,
@@ -18,7 +18,7 @@ pub struct Rate {
     ghost most: { units ≤ℤ pos 11000000 },
 }
 
-// What a mechanism had outstanding when its book was opened, in units.
+/// What a mechanism had outstanding when its book was opened, in units.
 #[derive(Clone, Copy)]
 pub struct OpeningBalance {
     pub units: i64,
@@ -26,7 +26,7 @@ pub struct OpeningBalance {
     ghost most: { units ≤ℤ pos 1000000000000 },
 }
 
-// How many months a correction is spread over.
+/// How many months a correction is spread over.
 #[derive(Clone, Copy)]
 pub struct Spread {
     pub months: u64,
@@ -35,7 +35,7 @@ pub struct Spread {
 }
 
 impl Rate {
-    // The rate that a book is opened with; None above 10,000,000.
+    /// The rate that a book is opened with; None above 10,000,000.
     pub fn starting(units: u64) -> Option<Rate>
         ensures { MatchOption result (10000000 < units) (λ r. (units ≤ 10000000) × (r.units ≡ pos units)) }
     {
@@ -49,7 +49,7 @@ impl Rate {
 }
 
 impl OpeningBalance {
-    // None outside ±1,000,000,000,000.
+    /// None outside ±1,000,000,000,000.
     pub fn new(units: i64) -> Option<OpeningBalance>
         ensures { MatchOption result (¬ ((negsuc 999999999999 ≤ℤ units) × (units ≤ℤ pos 1000000000000))) (λ b. b.units ≡ units) }
     {
@@ -61,7 +61,7 @@ impl OpeningBalance {
 }
 
 impl Spread {
-    // None for 0 and above 12.
+    /// None for 0 and above 12.
     pub fn new(months: u64) -> Option<Spread>
         ensures { MatchOption result (¬ ((1 ≤ months) × (months ≤ 12))) (λ s. s.months ≡ months) }
     {

@@ -7,7 +7,7 @@ use crate::rates::Rates;
 use crate::record::Closing;
 use crate::standing::Standing;
 
-// The rates announced for the coming month, the total and the revenue, and the standing.
+/// The rates announced for the coming month, the total and the revenue, and the standing.
 #[derive(Clone, Copy)]
 pub struct Answer {
     pub rates: Rates,

@@ -10,7 +10,7 @@ use charges::Assessment;
 use month::Month;
 use schedule::Schedule;
 
-// The assessments of up to 36 months.
+/// The assessments of up to 36 months.
 pub(crate) type Assessments = UpTo<Assessment, 36>;
 
 // The answer of the mechanism with this number for the last of the months; None where it breaks the law of a mechanism, or no month stands.
@@ -24,8 +24,8 @@ fn assess<S: Schedule>(schedule: &S, number: usize, months: &[Month]) -> Option<
     Assessment::new(quantity, schedule.assess(number, months))
 }
 
-// The mechanism's answer for each month, by the months up to it; None where one breaks the law, as none does where all months are fit, or where
-// more than 36 months stand.
+/// The mechanism's answer for each month, by the months up to it; None where one breaks the law, as none does where all months are fit, or where
+/// more than 36 months stand.
 #[tactic(auto, using(crate::proofs::Assessed::unlawful_by))]
 pub(crate) fn assessments<S: Schedule>(
     schedule: &S,

@@ -48,7 +48,7 @@ fn billed_rate(bills: &[Rates], number: usize, month: usize) -> Rate
     }
 }
 
-// The outstanding balance of mechanism `number`, where up to 36 months stand.
+/// The outstanding balance of mechanism `number`, where up to 36 months stand.
 pub(crate) fn balance_of(
     number: usize,
     opening: OpeningBalance,
@@ -67,8 +67,8 @@ pub(crate) fn balance_of(
     balance
 }
 
-// The outstanding balance of mechanism `number`, by its opening balance, the months that stand and what these were billed; None for a number that
-// a schedule is not asked for, and where an answer of the mechanism breaks the law or more than 36 months stand.
+/// The outstanding balance of mechanism `number`, by its opening balance, the months that stand and what these were billed; None for a number that
+/// a schedule is not asked for, and where an answer of the mechanism breaks the law or more than 36 months stand.
 pub fn outstanding<S: Schedule>(
     schedule: &S,
     number: usize,
@@ -89,8 +89,8 @@ pub fn outstanding<S: Schedule>(
     Some(balance_of(number, opening, assessed.as_slice(), bills))
 }
 
-// What is outstanding of all mechanisms together, of which each has an opening balance; None where one has none, or what is outstanding of one
-// is None.
+/// What is outstanding of all mechanisms together, of which each has an opening balance; None where one has none, or what is outstanding of one
+/// is None.
 pub fn total<S: Schedule>(
     schedule: &S,
     balances: &Balances,

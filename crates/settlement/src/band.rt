@@ -2,7 +2,7 @@
 ghost use Rattle.std.specs.Prelude.{◌≡◌, ◌*◌, ◌<◌, ◌≤◌, ◌↔◌, nat_abs};
 ghost use Rattle.settlement.specs.Bands.{band};
 
-// Beyond a tenth of the revenue, within three hundredths of it, or between the two.
+/// Beyond a tenth of the revenue, within three hundredths of it, or between the two.
 #[derive(Clone, Copy, Debug, PartialEq, Eq)]
 pub enum Band {
     Beyond,

@@ -4,7 +4,7 @@ ghost use Rattle.settlement.specs.Corrections.{is_barred};
 
 use crate::record::{Mark, Record};
 
-// Whether the month before the last stands and was not filed (Article 5, Section 1).
+/// Whether the month before the last stands and was not filed (Article 5, Section 1).
 pub(crate) fn is_barred(before: Option<Record>) -> bool
     ensures { result ≡ is_barred before }
 {

@@ -52,7 +52,7 @@ fn correction(standing: Standing, barred: bool, spread: Spread, balance: i64, qu
     }
 }
 
-// The rate announced for the coming month, by the last month's base rate and quantity.
+/// The rate announced for the coming month, by the last month's base rate and quantity.
 pub(crate) fn announced_rate(
     standing: Standing,
     barred: bool,

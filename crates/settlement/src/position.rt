@@ -8,7 +8,7 @@ mod taking;
 
 pub(crate) use taking::{Positions, positions};
 
-// What is outstanding, the allowances of the last three months, and the assessment of the last month.
+/// What is outstanding, the allowances of the last three months, and the assessment of the last month.
 #[derive(Clone, Copy)]
 pub(crate) struct Position {
     pub(crate) outstanding: i64,

@@ -6,20 +6,20 @@ use crate::amounts::{OpeningBalance, Rate, Spread};
 use bounded::UpTo;
 use schedule::Schedule;
 
-// A rate for each mechanism, by number.
+/// A rate for each mechanism, by number.
 pub type Rates = UpTo<Rate, 8>;
 
-// An opening balance for each mechanism, by number.
+/// An opening balance for each mechanism, by number.
 pub type Balances = UpTo<OpeningBalance, 8>;
 
-// Whether there is an opening balance for each mechanism; a schedule is asked only for the numbers that it has.
+/// Whether there is an opening balance for each mechanism; a schedule is asked only for the numbers that it has.
 pub(crate) fn suits<S: Schedule>(schedule: &S, balances: &Balances) -> bool
     ensures { IsTrue result ↔ (length (opening_units balances.now) ≡ length (S.Schedule.meaning schedule.now)) }
 {
     balances.len() == schedule.count()
 }
 
-// What stays of an opening as long as the book is open.
+/// What stays of an opening as long as the book is open.
 #[derive(Clone, Copy)]
 pub struct Terms {
     pub spread: Spread,

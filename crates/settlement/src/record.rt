@@ -5,7 +5,7 @@ ghost use Rattle.settlement.specs.Words.{mark_word};
 use crate::standing::Standing;
 use std::fmt;
 
-// Whether the month's filing is still due, was made, or was missed.
+/// Whether the month's filing is still due, was made, or was missed.
 #[derive(Clone, Copy, Debug, Default, PartialEq, Eq)]
 pub enum Mark {
     #[default]
@@ -14,15 +14,15 @@ pub enum Mark {
     Missed,
 }
 
-// The figures that a month closed with, in units: the sum of what is outstanding, and what may be recovered for the latest three months, or for
-// fewer where fewer stood.
+/// The figures that a month closed with, in units: the sum of what is outstanding, and what may be recovered for the latest three months, or for
+/// fewer where fewer stood.
 #[derive(Clone, Copy, Debug, Default, PartialEq, Eq)]
 pub struct Closing {
     pub total: i64,
     pub revenue: u64,
 }
 
-// A month's closing figures, its mark, and the standing that it left.
+/// A month's closing figures, its mark, and the standing that it left.
 #[derive(Clone, Copy, Debug, PartialEq, Eq)]
 pub struct Record {
     pub closing: Closing,

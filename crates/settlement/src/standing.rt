@@ -6,7 +6,7 @@ ghost use Rattle.settlement.specs.Words.{standing_word};
 use crate::band::Band;
 use std::fmt;
 
-// While a book is correcting, a correction is in force. It begins steady.
+/// While a book is correcting, a correction is in force. It begins steady.
 #[derive(Clone, Copy, Debug, PartialEq, Eq)]
 pub enum Standing {
     Steady,
@@ -14,7 +14,7 @@ pub enum Standing {
 }
 
 impl Standing {
-    // A total beyond its band begins a correction, one within ends it, and between the two the standing stays.
+    /// A total beyond its band begins a correction, one within ends it, and between the two the standing stays.
     pub fn judge(&mut self, band: Band)
         ensures { self.new ≡ judged self.old band }
     {
@@ -26,7 +26,7 @@ impl Standing {
         }
     }
 
-    // As it is printed.
+    /// As it is printed.
     pub fn word(self) -> &'static str
         ensures { result.now ≡ standing_word self }
     {

@@ -3,7 +3,7 @@
 
 ghost use Rattle.workedcases.specs.WorkedCases.{WorkedCases};
 
-// Nothing is done: the contract is the table.
+/// Nothing is done: the contract is the table.
 #[tactic(auto, using(crate::proofs::Cases::worked_cases))]
 pub fn worked_cases()
     ensures { WorkedCases }

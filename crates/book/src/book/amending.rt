@@ -26,9 +26,9 @@ use schedule::Schedule;
 use settlement::{Answer, Record, settle};
 
 impl<S: Schedule> Book<S> {
-    // Puts the file's month in place of the one that stands under its number, which is answered, and settles the months that then stand: the
-    // allowances of later months follow, and the lent answer has the rates announced for the coming month, the last month's closing figures and
-    // the standing.
+    /// Puts the file's month in place of the one that stands under its number, which is answered, and settles the months that then stand: the
+    /// allowances of later months follow, and the lent answer has the rates announced for the coming month, the last month's closing figures and
+    /// the standing.
     pub fn amend(&mut self, file: &[u8], answer: &mut Answer) -> Result<u16, BookFault>
         ensures schedule { self.new.schedule ≡ self.old.schedule }
         ensures cases { MatchResult result

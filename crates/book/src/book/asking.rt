@@ -29,7 +29,7 @@ fn ask_fit<S: Schedule>(schedule: &S, mechanisms: usize, month: &Month) -> Resul
 }
 
 impl<S: Schedule> Book<S> {
-    // The month that the file states, where questions 1 to 13 are answered yes.
+    /// The month that the file states, where questions 1 to 13 are answered yes.
     #[tactic(auto, using(crate::proofs::Admitted::no_month, crate::proofs::Admitted::not_placed, crate::proofs::Admitted::not_fit))]
     pub(super) fn admit(&self, kind: PostingKind, file: &[u8]) -> Result<Month, BookFault>
         ensures { MatchResult result

@@ -56,8 +56,8 @@ fn settle_with<S: Schedule>(
 }
 
 impl<S: Schedule> Book<S> {
-    // Enters the next month by its file. The lent answer then has the rates announced for the month after it, its closing figures and the standing;
-    // the month's filing is due, and the duty is handed out.
+    /// Enters the next month by its file. The lent answer then has the rates announced for the month after it, its closing figures and the standing;
+    /// the month's filing is due, and the duty is handed out.
     pub fn enter(&mut self, file: &[u8], answer: &mut Answer) -> Result<Duty, BookFault>
         ensures schedule { self.new.schedule ≡ self.old.schedule }
         ensures cases { MatchResult result

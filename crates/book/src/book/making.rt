@@ -6,7 +6,7 @@ use schedule::Schedule;
 use std::alloc::{AllocFailed, Global};
 
 impl<S: Schedule> Book<S> {
-    // A closed book. This is the one call that may lack memory, and then the schedule comes back.
+    /// A closed book. This is the one call that may lack memory, and then the schedule comes back.
     pub fn new(heap: Global, schedule: S) -> Result<Book<S>, AllocFailed<S>>
         ensures { MatchResult result (λ b. b ≡ record { schedule = schedule; account = None }) (λ e. e.value ≡ schedule) }
     {

@@ -21,7 +21,7 @@ fn units_at(rates: &Rates, mechanism: usize) -> Option<i64>
 }
 
 impl<S: Schedule> Book<S> {
-    // What is outstanding of a mechanism, in units.
+    /// What is outstanding of a mechanism, in units.
     pub fn outstanding(&self, mechanism: usize) -> Option<i64>
         ensures { result ≡ outstanding_told (S.Schedule.meaning self.now.schedule) self.now.account mechanism }
     {
@@ -36,7 +36,7 @@ impl<S: Schedule> Book<S> {
         )
     }
 
-    // What is outstanding of all mechanisms together, in units.
+    /// What is outstanding of all mechanisms together, in units.
     pub fn total(&self) -> Option<i64>
         ensures { result ≡ total_told (S.Schedule.meaning self.now.schedule) self.now.account }
     {
@@ -49,7 +49,7 @@ impl<S: Schedule> Book<S> {
         )
     }
 
-    // The standing that the last month left; a book with no month, and a closed one, is steady.
+    /// The standing that the last month left; a book with no month, and a closed one, is steady.
     pub fn standing(&self) -> Standing
         ensures { result ≡ standing_told self.now.account }
     {
@@ -59,14 +59,14 @@ impl<S: Schedule> Book<S> {
         }
     }
 
-    // The rate last announced for a mechanism, in units per kWh.
+    /// The rate last announced for a mechanism, in units per kWh.
     pub fn announced(&self, mechanism: usize) -> Option<i64>
         ensures { result ≡ announced_told self.now.account mechanism }
     {
         units_at(&self.opened?.announced, mechanism)
     }
 
-    // The rate that a month was billed at for a mechanism.
+    /// The rate that a month was billed at for a mechanism.
     pub fn billed(&self, month: u16, mechanism: usize) -> Option<i64>
         ensures { result ≡ billed_told self.now.account month mechanism }
     {
@@ -82,14 +82,14 @@ impl<S: Schedule> Book<S> {
         of_month(self.records.as_slice(), usize::from(month))
     }
 
-    // Whether a month's filing is pending, was made or was missed.
+    /// Whether a month's filing is pending, was made or was missed.
     pub fn mark(&self, month: u16) -> Option<Mark>
         ensures { result ≡ mark_told self.now.account month }
     {
         Some(self.record(month)?.mark)
     }
 
-    // The marks of all months that stand, in their order.
+    /// The marks of all months that stand, in their order.
     pub fn marks(&self) -> Marks
         ensures { held result ≡ marks_told self.now.account }
     {
@@ -100,7 +100,7 @@ impl<S: Schedule> Book<S> {
         marks
     }
 
-    // The figures that a month closed with.
+    /// The figures that a month closed with.
     pub fn closing(&self, month: u16) -> Option<Closing>
         ensures { result ≡ closing_told self.now.account month }
     {

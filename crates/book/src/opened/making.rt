@@ -42,7 +42,7 @@ fn opening_balances(given: &[i64]) -> Option<Balances>
 }
 
 impl Opened {
-    // The numbers of an opening of which question 15 is answered yes, for a schedule of so many mechanisms.
+    /// The numbers of an opening of which question 15 is answered yes, for a schedule of so many mechanisms.
     pub(crate) fn ask(
         mechanisms: usize,
         closed: bool,

@@ -7,7 +7,7 @@ use super::Month;
 use crate::statement::Statement;
 
 impl Month {
-    // G, the cost of generation to recover.
+    /// G, the cost of generation to recover.
     pub fn generation_cost(&self) -> u64
         ensures is { result ≡ generation_cost (figures self.now) }
         ensures formula { pos result ≡ generation_formula (figures self.now) }
@@ -19,7 +19,7 @@ impl Month {
         cost
     }
 
-    // T, the cost of transmission to recover.
+    /// T, the cost of transmission to recover.
     #[tactic(auto, using(crate::specs::Validity::month_valid))]
     pub fn transmission_cost(&self) -> u64
         ensures is { result ≡ transmission_cost (figures self.now) }
@@ -32,7 +32,7 @@ impl Month {
         cost
     }
 
-    // S, all kWh sold.
+    /// S, all kWh sold.
     #[tactic(auto, using(crate::specs::Validity::month_valid))]
     pub fn sales(&self) -> u64
         ensures is { result ≡ sold (figures self.now) }
@@ -42,7 +42,7 @@ impl Month {
         self.sales
     }
 
-    // D, the lifeline discount. A bracket of 0 percent is passed over.
+    /// D, the lifeline discount. A bracket of 0 percent is passed over.
     pub fn lifeline_discount(&self) -> u64
         ensures is { result ≡ discount (figures self.now) }
         ensures formula { result ≡ discount_formula (figures self.now) }

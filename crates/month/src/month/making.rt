@@ -10,7 +10,7 @@ use crate::statement::Statement;
 use crate::within::WithinLimits;
 
 impl Month {
-    // The month of this statement, unless one of the questions 6 to 11 is answered no.
+    /// The month of this statement, unless one of the questions 6 to 11 is answered no.
     pub fn new(statement: Statement) -> Result<Month, MonthFault>
         ensures cases { MatchResult result (λ m. Made statement m) (λ e. NotMade statement e) }
         ensures valid { Valid (stated statement) → is_ok result ≡ true }
@@ -24,7 +24,7 @@ impl Month {
         })
     }
 
-    // What the month states: its figures are valid.
+    /// What the month states: its figures are valid.
     #[tactic(auto, using(crate::specs::Validity::month_valid))]
     pub fn statement(&self) -> &Statement
         ensures is { result.now ≡ self.now.within.statement }

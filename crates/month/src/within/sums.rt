@@ -13,7 +13,7 @@ const UNITS_PER_CENTAVO: u64 = 100;
 const UNITS_PER_HALF_CENTAVO: u64 = 50;
 
 impl Source {
-    // In units: the cost less what was recovered, and less half the discount that was kept; nothing where that is below zero.
+    /// In units: the cost less what was recovered, and less half the discount that was kept; nothing where that is below zero.
     pub(crate) fn recoverable(&self, recovered: u64) -> Option<u64>
         requires bounded { BoundedSource self.now }
         requires recovered { recovered ≤ 5000000000 }
@@ -28,7 +28,7 @@ impl Source {
 }
 
 impl Bracket {
-    // In units: a hundred times the discount.
+    /// In units: a hundred times the discount.
     pub(crate) fn hundredfold(&self, sales: Sales) -> u64
         requires { BoundedBracket sales self.now }
         ensures { result ≡ hundredfold sales self.now }
@@ -38,7 +38,7 @@ impl Bracket {
 }
 
 impl WithinLimits {
-    // All sources as one.
+    /// All sources as one.
     pub(crate) fn bought(&self) -> Source
         ensures is { result ≡ all_bought (stated self.now.statement) }
         ensures bounded { BoundedSource result }
@@ -58,7 +58,7 @@ impl WithinLimits {
         }
     }
 
-    // All kWh sold.
+    /// All kWh sold.
     pub(crate) fn sold(&self) -> u64
         ensures { result ≡ sold (stated self.now.statement) }
     {

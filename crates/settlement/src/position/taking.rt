@@ -17,7 +17,7 @@ use charges::{Assessment, recent_allowances};
 use month::Month;
 use schedule::Schedule;
 
-// The positions of up to eight mechanisms, by number.
+/// The positions of up to eight mechanisms, by number.
 pub(crate) type Positions = UpTo<Position, 8>;
 
 // The position of one mechanism; None where no month stands or more than 36 do, or an answer of the mechanism breaks the law.
@@ -44,7 +44,7 @@ fn position<S: Schedule>(
     })
 }
 
-// The positions of all mechanisms, of which each has an opening balance; None where one has none, or cannot be settled.
+/// The positions of all mechanisms, of which each has an opening balance; None where one has none, or cannot be settled.
 #[tactic(auto, using(crate::proofs::Taken::no_positions))]
 pub(crate) fn positions<S: Schedule>(
     schedule: &S,
