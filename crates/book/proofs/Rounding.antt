@@ -9,7 +9,7 @@ use Rattle.settlement.specs.Numbers.{by_number, int_sum}
 use Rattle.settlement.proofs.Numbers.{int_sum-push}
 use Rattle.book.specs.Facts.{rounding_rest, RestWithin}
 use Rattle.book.specs.Opening.{OpeningNumbers}
-use Rattle.book.specs.Sums.{balance, all_quantities, quantity, own_rate, allowance, rate_billed}
+use Rattle.book.specs.Sums.{balance, all_quantities, quantity, own_rate, allowance, billed_in_month}
 use Rattle.book.specs.Tally.{Tally}
 use Rattle.book.proofs.Sums.{place_of_month}
 
@@ -31,10 +31,10 @@ module _ (row : List Meaning) (t : Tally) (i : ℕ) (all : AllLawful (numbered r
   allowed j = pos (allowance row t i (suc j))
 
   abbrev billed : ℕ → ℤ
-  billed j = pos (quantity row t i (suc j)) *ℤ rate_billed t i (suc j)
+  billed j = pos (quantity row t i (suc j)) *ℤ billed_in_month t i (suc j)
 
   abbrev short : ℕ → ℤ
-  short j = pos (quantity row t i (suc j)) *ℤ (pos (own_rate row t i (suc j)) -ℤ rate_billed t i (suc j))
+  short j = pos (quantity row t i (suc j)) *ℤ (pos (own_rate row t i (suc j)) -ℤ billed_in_month t i (suc j))
 
   abbrev used : ℕ → ℤ
   used j = pos (quantity row t i (suc j))
@@ -45,11 +45,11 @@ module _ (row : List Meaning) (t : Tally) (i : ℕ) (all : AllLawful (numbered r
   -- a month leaves over at least 0, and less than its quantity
   month_covered : (j : ℕ) → j < length t.months → (short j +ℤ billed j) ≤ℤ allowed j
   month_covered j inside =
-      omega (arith, ints, at_difference (own_rate row t i (suc j)) (quantity row t i (suc j)) (rate_billed t i (suc j)), (lawful_month j inside).covered)
+      omega (arith, ints, at_difference (own_rate row t i (suc j)) (quantity row t i (suc j)) (billed_in_month t i (suc j)), (lawful_month j inside).covered)
 
   month_tight : (j : ℕ) → j < length t.months → allowed j <ℤ ((short j +ℤ billed j) +ℤ used j)
   month_tight j inside =
-      omega (arith, ints, at_difference (own_rate row t i (suc j)) (quantity row t i (suc j)) (rate_billed t i (suc j)), (lawful_month j inside).tight)
+      omega (arith, ints, at_difference (own_rate row t i (suc j)) (quantity row t i (suc j)) (billed_in_month t i (suc j)), (lawful_month j inside).tight)
 
   -- so do the first n months
   covered : (n : ℕ) → n ≤ length t.months → (int_sum (by_number short n) +ℤ int_sum (by_number billed n)) ≤ℤ int_sum (by_number allowed n)

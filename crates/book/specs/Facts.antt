@@ -24,7 +24,7 @@ use Rattle.book.specs.Postings.{has_place}
 use Rattle.book.specs.Reading.{outstanding_told, total_told, mark_told, standing_told, announced_told}
 use Rattle.book.specs.Reading.{billed_told, closing_told, file_told as written_told}
 use Rattle.book.specs.Sums.{opening_balance, all_allowances, all_billed, all_quantities, over_months}
-use Rattle.book.specs.Sums.{quantity, own_rate, rate_billed, total_by_tally, rate_by_tally}
+use Rattle.book.specs.Sums.{quantity, own_rate, billed_in_month, total_by_tally, rate_by_tally}
 use Rattle.book.specs.Tally.{Posting, Tally, tally}
 
 -- The first fact: the balances add up, to the unit. For each mechanism the opening balance and all
@@ -52,7 +52,7 @@ pub record SumsAddUp (row : List Meaning) (t : Tally) (outstanding : ℕ → ℤ
 abbrev pub rounding_rest : List Meaning → OpeningNumbers → Tally → (ℕ → ℤ) → ℕ → ℤ
 rounding_rest row o t outstanding i =
     let short = λ (month : ℕ).
-    pos (quantity row t i month) *ℤ (pos (own_rate row t i month) -ℤ rate_billed t i month) in
+    pos (quantity row t i month) *ℤ (pos (own_rate row t i month) -ℤ billed_in_month t i month) in
     (outstanding i -ℤ opening_balance o i) -ℤ over_months t short
 
 -- at least 0 and less than all quantities together, or 0 with no month

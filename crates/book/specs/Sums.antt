@@ -19,8 +19,8 @@ abbrev pub over_months : Tally → (ℕ → ℤ) → ℤ
 over_months t f = int_sum (by_number (λ j. f (suc j)) (length t.months))
 
 -- the rate that a month was billed at
-abbrev pub rate_billed : Tally → ℕ → ℕ → ℤ
-rate_billed t i month = billed_rate t.billed i (month - 1)
+abbrev pub billed_in_month : Tally → ℕ → ℕ → ℤ
+billed_in_month t i month = billed_rate t.billed i (month - 1)
 
 module _ (row : List Meaning) (t : Tally) where
   -- what a month is billed on
@@ -42,7 +42,7 @@ module _ (row : List Meaning) (t : Tally) where
   all_allowances i = over_months t (λ month. pos (allowance i month))
 
   abbrev pub all_billed : ℕ → ℤ
-  all_billed i = over_months t (λ month. pos (quantity i month) *ℤ rate_billed t i month)
+  all_billed i = over_months t (λ month. pos (quantity i month) *ℤ billed_in_month t i month)
 
 abbrev pub opening_balance : OpeningNumbers → ℕ → ℤ
 opening_balance o i = slice_index_or o.balances i (pos 0)

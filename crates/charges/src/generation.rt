@@ -14,6 +14,7 @@ use month::Month;
 pub type Generation = AverageCost<PowerSupply>;
 
 impl Generation {
+    /// Formulas 1 and 7 of Resolution 14.
     pub fn new() -> Generation
         ensures meaning { ⟦<Generation as Mechanism>⟧.meaning result ≡ generation }
         ensures price { ⟦<Generation as Priced>⟧.price result ≡ generation_rate }

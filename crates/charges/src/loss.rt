@@ -23,6 +23,7 @@ pub struct Loss<G, T> {
 }
 
 impl<G: Priced, T: Priced> Loss<G, T> {
+    /// The cap on the feeder loss is in hundredths of a percent; one above 5,000 is refused (question 15, place 1).
     pub fn new(generation: G, transmission: T, cap: u64) -> Result<Loss<G, T>, CapTooHigh>
     where
         G: Drop,

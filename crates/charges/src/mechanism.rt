@@ -9,14 +9,15 @@ use month::Month;
 pub trait Mechanism {
     ghost meaning: { Self → Meaning };
 
+    /// Whether the month may be charged for, by that month alone.
     fn is_fit(&self, month: &Month) -> bool
         ensures { result ≡ (meaning self.now).fit (figures month.now) };
 
-    /// What the month is billed on.
+    /// What the month is billed on, in kWh: 1 to 10,000,000 where the months can stand.
     fn quantity(&self, month: &Month) -> u64
         ensures { result ≡ (meaning self.now).quantity (figures month.now) };
 
-    /// The base rate and the allowance of the last month, as a pair: they are answered together.
+    /// The base rate in units per kWh and the allowance in units, of the last month, as a pair: they are answered together.
     fn assess(&self, months: &[Month]) -> (u64, u64)
         ensures { result ≡ (meaning self.now).assessed (map figures months.now) };
 

@@ -14,6 +14,7 @@ use month::Month;
 pub type Transmission = AverageCost<TransmissionService>;
 
 impl Transmission {
+    /// Formulas 2.A and 8 of Resolution 14.
     pub fn new() -> Transmission
         ensures meaning { ⟦<Transmission as Mechanism>⟧.meaning result ≡ transmission }
         ensures price { ⟦<Transmission as Priced>⟧.price result ≡ transmission_rate }

@@ -11,8 +11,8 @@ use schedule::FourCharges;
 /// The number of the charge that it looks at.
 pub(crate) const GENERATION: usize = 0;
 
-/// A prompt client that files a month only where something of generation is outstanding: where nothing is, no upward correction is due to it that a month
-/// which is not filed could bar.
+/// A prompt client that files a month only where something of generation is still to be recovered: where nothing is, no upward correction is due to it that
+/// a month which is not filed could bar.
 #[derive(Drop)]
 pub(crate) struct Sparing {
     pub(crate) prompt: Prompt,

@@ -4,7 +4,7 @@ ghost use Rattle.examples.specs.GrowingFees.{growing_fee, growing_fee_lawful};
 use charges::Mechanism;
 use month::Month;
 
-/// 250,000 per kWh sold for each month that stands.
+/// 250,000 units per kWh sold for each month that stands.
 #[derive(Clone, Copy)]
 pub(crate) struct GrowingFee;
 
@@ -26,6 +26,7 @@ impl Mechanism for GrowingFee {
         let Some(month) = months.last() else {
             return (0, 0);
         };
+        // From 100 on it grows no more, so that the product fits 64 bits.
         let rate = 250_000 * months.len().min(100) as u64;
         (rate, rate * month.sales())
     }

@@ -86,7 +86,7 @@ month_lines f =
 abbrev pub cap_line : ℕ → Line
 cap_line cap = figure_line (codes "feeder loss cap C") cap (codes "hundredths of a percent")
 
--- what a charge answers for the month, which stands alone
+-- what a charge answers for the month by itself
 abbrev pub charge_answer : Meaning → Figures → Line
 charge_answer k f =
     if k.fit f

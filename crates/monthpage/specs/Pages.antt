@@ -16,7 +16,7 @@ use Rattle.monthfile.specs.Reading.{Accepted, Refused}
 use Rattle.schedule.specs.Four.{four_charges}
 use Rattle.monthpage.specs.Lines.{Line, text, month_lines, cap_line, charge_lines, refusal_lines}
 
--- the lines of a good file
+-- the lines of a file that states a month
 abbrev pub answer_lines : ℕ → List Meaning → Figures → List Line
 answer_lines cap row f = month_lines f ++ (cap_line cap ∷ []) ++ charge_lines row f
 

@@ -1,8 +1,8 @@
-// What the four charges answer for a month that stands alone, a line for each.
+// What the four charges answer for a month by itself, whatever its number, a line for each.
 ghost use Rattle.std.specs.Prelude.{◌≡◌, ◌++◌, IfOk, OnOk, string_bytes};
 ghost use Rattle.month.specs.View.{figures};
 ghost use Rattle.schedule.specs.Four.{four_charges, cap_of};
-ghost use Rattle.schedule.specs.Rows.{IsAsked, numbered};
+ghost use Rattle.schedule.specs.Rows.{MayBeAsked, numbered};
 ghost use Rattle.monthpage.specs.Lines.{line, text, charge_line, charge_lines};
 ghost use Rattle.monthpage.specs.Pages.{all_fit};
 
@@ -19,7 +19,7 @@ fn put_answer<S: Schedule>(
     charges: &S,
     month: &Month,
 ) -> Result<bool, AllocError>
-    requires { IsAsked (S.Schedule.meaning charges.now) number }
+    requires { MayBeAsked (S.Schedule.meaning charges.now) number }
     ensures line { OnOk result (string_bytes page.new ≡ string_bytes page.old
         ++ line (charge_line number name.now (numbered (S.Schedule.meaning charges.now) number) (figures month.now))) }
     ensures fit { IfOk result (λ fit. fit ≡ (numbered (S.Schedule.meaning charges.now) number).fit (figures month.now)) }

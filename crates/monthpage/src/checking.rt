@@ -36,7 +36,7 @@ fn refused<F: Display + Drop>(
     Ok(Checked { page, good: false })
 }
 
-// The page of a good file.
+// The page of a file that states a month.
 fn answered(
     heap: Global,
     cap: u64,
@@ -58,7 +58,7 @@ fn answered(
     Ok(Checked { page, good })
 }
 
-/// The cap is asked about before the file is read.
+/// The page of a file, by a cap in hundredths of a percent, which is asked about before the file is read.
 pub fn check(heap: Global, cap: u64, file: &[u8]) -> Result<Checked, AllocError>
     ensures cases { IfOk result (λ c. Checks cap file.now (string_bytes c.page) c.good) }
     // No other page is that of the file and the cap, and no other answer.

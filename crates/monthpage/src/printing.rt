@@ -19,7 +19,8 @@ fn exit_code(good: bool) -> ExitCode
     }
 }
 
-/// Reads a month file to its end and prints its page.
+/// Reads a month file to its end and prints its page, with a cap in hundredths of a percent. The exit code has status 0 where nothing is refused and all
+/// four charges find the month fit, and otherwise 1; an error tells of reading, writing or memory.
 pub fn print_page<R: Read, W: Write>(
     heap: Global,
     cap: u64,

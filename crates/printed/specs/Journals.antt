@@ -39,7 +39,7 @@ Journaled marks (Amends file) (line.Amended month answer) before after = Continu
 Journaled marks frame told before after = after ≡ before
 
 -- the frames, worked and journaled one after another. The states in between are told again, since a posting has the marks that the book had before it;
--- they are those of the run, as a frame leaves one state alone
+-- they are those of the run, as a frame leaves one state and no other
 abbrev pub JournaledAll : State → Option Journal → List Exchange → State → Option Journal → Type 0
 JournaledAll before begun [] after ended = (after ≡ before) × (ended ≡ begun)
 JournaledAll before begun (x ∷ xs) after ended =

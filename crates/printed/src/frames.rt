@@ -32,6 +32,7 @@ pub struct Frames<'a> {
 }
 
 impl<'a> Frames<'a> {
+    /// The whole stream, none of it read.
     pub fn new(bytes: &'a [u8]) -> Frames<'a>
         ensures stream { stream result ≡ bytes.now }
         ensures start { offset result ≡ 0 }

@@ -31,6 +31,7 @@ impl Model for NewBook {
 }
 
 impl NewBook {
+    /// A closed book over the four charges; it takes the memory for 36 months.
     pub fn new(heap: Global) -> Result<NewBook, AllocError>
         ensures { IfOk result (λ b. state_of b ≡ closed) }
     {

@@ -1,7 +1,7 @@
 // Where the stream goes on with no frame.
 use fields::FieldFault;
 
-/// The offset of a head with which no frame begins: the head is not all there, its tag names no frame, its length is not that of an opening, or the
+/// The offset of a head with which no frame begins: the head is not all there, its tag names no frame, it is of an opening and its length is not 88, or the
 /// value is cut short.
 #[derive(Clone, Copy, Debug, PartialEq, Eq)]
 pub struct NoFrame {

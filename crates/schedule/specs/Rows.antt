@@ -3,7 +3,7 @@ use Rattle.std.specs.Prelude.{ℕ, ◌<◌, ◌≤◌, min, false, List, length,
 use Rattle.charges.specs.Meaning.{Meaning}
 
 -- the numbers that a schedule is asked for: those of its own mechanisms, of the first eight
-pub record IsAsked (row : List Meaning) (number : ℕ) : Type 0 where
+pub record MayBeAsked (row : List Meaning) (number : ℕ) : Type 0 where
   pub own : number < length row
   pub up_to_7 : number ≤ 7
 

@@ -24,7 +24,7 @@ pub struct FourCharges {
 }
 
 impl FourCharges {
-    /// The cap on the feeder loss is in hundredths of a percent.
+    /// The cap on the feeder loss is in hundredths of a percent; one above 5,000 is refused (question 15, place 1).
     pub fn new(cap: u64) -> Result<FourCharges, CapTooHigh>
         ensures { MatchResult result (λ s. (cap ≤ 5000) × (⟦<FourCharges as Schedule>⟧.meaning s ≡ four_charges cap)) (λ e. NotMade cap e) }
     {

@@ -1,6 +1,6 @@
 // Two schedules in a row, as one: the numbers of the second go on after those of the first.
 ghost use Rattle.std.specs.Prelude.{◌++◌};
-ghost use Rattle.schedule.specs.Rows.{IsAsked};
+ghost use Rattle.schedule.specs.Rows.{MayBeAsked};
 ghost use Rattle.schedule.specs.Sides.{Found};
 ghost use Rattle.std.proofs.lemmas.List.Elements.{All-append};
 ghost use Rattle.charges.specs.Meaning.{Lawful};
@@ -17,7 +17,7 @@ pub struct Joined<F, S> {
 impl<F: Schedule, S: Schedule> Joined<F, S> {
     // A mechanism's number in the second schedule, or None where the first has it.
     fn in_second(&self, number: usize) -> Option<usize>
-        ensures { IsAsked (F.Schedule.meaning self.now.first ++ S.Schedule.meaning self.now.second) number
+        ensures { MayBeAsked (F.Schedule.meaning self.now.first ++ S.Schedule.meaning self.now.second) number
             → Found (F.Schedule.meaning self.now.first) (S.Schedule.meaning self.now.second) number result }
     {
         number.checked_sub(self.first.count())

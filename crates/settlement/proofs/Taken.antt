@@ -7,7 +7,7 @@ use Rattle.bounded.specs.View.{held, Grew}
 use Rattle.bounded.specs.declared.up_to.UpTo.{UpTo}
 use Rattle.charges.specs.Meaning.{Meaning}
 use Rattle.month.specs.Figures.{Figures}
-use Rattle.schedule.specs.Rows.{IsAsked, numbered}
+use Rattle.schedule.specs.Rows.{MayBeAsked, numbered}
 use Rattle.settlement.specs.Months.{Settleable}
 use Rattle.settlement.specs.Positions.{IsPosition, ArePositions}
 use Rattle.settlement.specs.Settling.{opening_units}
@@ -15,7 +15,7 @@ use Rattle.settlement.specs.declared.amounts.OpeningBalance.{OpeningBalance}
 use Rattle.settlement.specs.declared.position.Position.{Position}
 
 -- where each mechanism has an opening balance, the number of a balance is one that a schedule is asked for
-pub own_number : (row : List Meaning) (balances : UpTo OpeningBalance 8) (items : List OpeningBalance) (number : ℕ) → length (opening_units balances) ≡ length row → items ≡ held balances → length items ≤ 8 → number < length items → IsAsked row number × (number < length (opening_units balances))
+pub own_number : (row : List Meaning) (balances : UpTo OpeningBalance 8) (items : List OpeningBalance) (number : ℕ) → length (opening_units balances) ≡ length row → items ≡ held balances → length items ≤ 8 → number < length items → MayBeAsked row number × (number < length (opening_units balances))
 own_number row balances items number count is few inside =
     let here : number < length (opening_units balances) = omega (arith, inside, ap length is, length-map (held balances) (λ b. b.units)) in
     (record { own = omega (arith, here, count); up_to_7 = omega (arith, few, inside) }, here)

@@ -25,7 +25,8 @@ difference a = a.rate -ℤ pos a.base_rate
 abbrev pub unit_comes_to : Announcement → ℕ
 unit_comes_to a = a.spread * a.quantity
 
--- the month before the last bars no upward correction: none stands, or it is marked filed (Article 5, Section 1)
+-- the month before the last bars no upward correction: none stands, or it is marked filed (Article 5, Section 1). It is said here in its own words, and
+-- not by the definition that the code computes
 abbrev pub Unbarred : Option Mark → Type 0
 Unbarred None = ⊤
 Unbarred (Some mark) = mark ≡ Filed

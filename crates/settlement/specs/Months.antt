@@ -4,7 +4,7 @@ use Rattle.charges.specs.Assessed.{allowance_of}
 use Rattle.charges.specs.Meaning.{Meaning, LawfulAnswer}
 use Rattle.charges.specs.declared.assessment.Assessment.{Assessment}
 use Rattle.month.specs.Figures.{Figures}
-use Rattle.schedule.specs.Rows.{IsAsked, numbered}
+use Rattle.schedule.specs.Rows.{MayBeAsked, numbered}
 use Rattle.settlement.specs.Numbers.{by_number}
 
 -- months are counted from 0 here; the base rate and the allowance of month j depend on the months up to it
@@ -36,14 +36,14 @@ pub record AssessesLast (k : Meaning) (ms : List Figures) (a : Assessment) : Typ
   pub quantity : a.quantity ≡ quantity_at k ms (length ms - 1)
   pub answer : a.answer ≡ k.assessed ms
 
--- at most 36 months stand, and the mechanism's answer for each keeps the law, as it does where all are fit
+-- at most 36 months stand, and the mechanism's answer for each keeps the law, as it does where the months can stand
 pub record AllLawful (k : Meaning) (ms : List Figures) : Type 0 where
   pub few : length ms ≤ 36
   pub lawful : (j : ℕ) → j < length ms → LawfulAnswer (quantity_at k ms j) (assessed_at k ms j)
 
 -- a schedule is asked for this number, and the answers of its mechanism keep the law
 pub record Assessable (row : List Meaning) (number : ℕ) (ms : List Figures) : Type 0 where
-  pub asked : IsAsked row number
+  pub asked : MayBeAsked row number
   pub lawful : AllLawful (numbered row number) ms
 
 -- there are n mechanisms, and the answers of each keep the law

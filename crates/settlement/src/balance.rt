@@ -67,7 +67,7 @@ pub(crate) fn balance_of(
     balance
 }
 
-/// The outstanding balance of mechanism `number`, by its opening balance, the months that stand and what these were billed; None for a number that
+/// The outstanding balance of mechanism `number` in units, by its opening balance, the months that stand and what these were billed; None for a number that
 /// a schedule is not asked for, and where an answer of the mechanism breaks the law or more than 36 months stand.
 pub fn outstanding<S: Schedule>(
     schedule: &S,
@@ -89,8 +89,8 @@ pub fn outstanding<S: Schedule>(
     Some(balance_of(number, opening, assessed.as_slice(), bills))
 }
 
-/// What is outstanding of all mechanisms together, of which each has an opening balance; None where one has none, or what is outstanding of one
-/// is None.
+/// What is outstanding of all mechanisms together, in units; None where there are not as many opening balances as mechanisms, or what is
+/// outstanding of one is None.
 pub fn total<S: Schedule>(
     schedule: &S,
     balances: &Balances,

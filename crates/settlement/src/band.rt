@@ -11,6 +11,7 @@ pub enum Band {
 }
 
 impl Band {
+    /// Both are in units.
     pub fn of(total: i64, revenue: u64) -> Band
         ensures is { result ≡ band total revenue }
         ensures beyond { (result ≡ Band.Beyond) ↔ (revenue < 10 * nat_abs total) }

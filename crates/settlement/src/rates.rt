@@ -12,7 +12,7 @@ pub type Rates = UpTo<Rate, 8>;
 /// An opening balance for each mechanism, by number.
 pub type Balances = UpTo<OpeningBalance, 8>;
 
-/// Whether there is an opening balance for each mechanism; a schedule is asked only for the numbers that it has.
+/// Whether there are as many opening balances as mechanisms; a schedule is asked only for the numbers that it has.
 pub(crate) fn suits<S: Schedule>(schedule: &S, balances: &Balances) -> bool
     ensures { IsTrue result ↔ (length (opening_units balances.now) ≡ length (S.Schedule.meaning schedule.now)) }
 {

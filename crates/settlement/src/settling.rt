@@ -64,8 +64,8 @@ fn announce(positions: &Positions, terms: &Terms, standing: Standing, barred: bo
     rates
 }
 
-/// The answer for the last of the months, by what each was billed and by the record of the month before the last, where one stands; None where a
-/// mechanism has no opening balance, no month stands or more than 36 do, or an answer of a mechanism breaks the law, as none does where the months
+/// The answer for the last of the months, by what each was billed and by the record of the month before the last, where one stands; None where
+/// there are not as many opening balances as mechanisms, no month stands or more than 36 do, or an answer of a mechanism breaks the law, as none does where the months
 /// can stand.
 pub fn settle<S: Schedule>(
     schedule: &S,

@@ -90,6 +90,6 @@ lifeline_at metering = record hundred_kwh {
   sales = record { nonlifeline = 1; rate = 1000000; metering = metering };
 }
 
--- the base rate of a month that stands alone, and whether the month is fit
+-- the base rate of month 1 standing alone, and whether the month is fit
 abbrev pub price_and_fit : Meaning → Figures → ℕ × Bool
 price_and_fit k m = ((k.assessed (m ∷ [])).0, k.fit m)

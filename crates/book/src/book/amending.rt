@@ -28,7 +28,7 @@ use settlement::{Answer, Record, settle};
 impl<S: Schedule> Book<S> {
     /// Puts the file's month in place of the one that stands under its number, which is answered, and settles the months that then stand: the
     /// allowances of later months follow, and the lent answer has the rates announced for the coming month, the last month's closing figures and
-    /// the standing.
+    /// the standing. Refused by questions 1 to 13; book and answer are then as they were.
     pub fn amend(&mut self, file: &[u8], answer: &mut Answer) -> Result<u16, BookFault>
         ensures schedule { self.new.schedule ≡ self.old.schedule }
         ensures cases { MatchResult result

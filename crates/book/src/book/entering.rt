@@ -28,7 +28,7 @@ use month::Month;
 use schedule::Schedule;
 use settlement::{Answer, Mark, Rates, Record, settle};
 
-// The answer to entering the month after those that stand; None where it cannot be settled, as never happens where all are fit.
+// The answer to entering the month after those that stand; None where it cannot be settled, as never happens where the months can stand.
 fn settle_with<S: Schedule>(
     schedule: &S,
     opened: &Opened,
@@ -57,7 +57,7 @@ fn settle_with<S: Schedule>(
 
 impl<S: Schedule> Book<S> {
     /// Enters the next month by its file. The lent answer then has the rates announced for the month after it, its closing figures and the standing;
-    /// the month's filing is due, and the duty is handed out.
+    /// the month's filing is due, and the duty is handed out. Refused by questions 1 to 13; book and answer are then as they were.
     pub fn enter(&mut self, file: &[u8], answer: &mut Answer) -> Result<Duty, BookFault>
         ensures schedule { self.new.schedule ≡ self.old.schedule }
         ensures cases { MatchResult result

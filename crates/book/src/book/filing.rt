@@ -15,7 +15,7 @@ use schedule::Schedule;
 use settlement::{Mark, Record};
 
 impl<S: Schedule> Book<S> {
-    /// Spends the duty and marks its month filed; no rate is announced. A refused duty comes back.
+    /// Spends the duty and marks its month filed; no rate is announced. Refused by question 14: the duty comes back, and the book is as it was.
     pub fn file(&mut self, duty: Duty) -> Result<(), ReturnedDuty>
         ensures schedule { self.new.schedule ≡ self.old.schedule }
         ensures cases { MatchResult result (λ _. Spent self.old.account self.new.account duty Filed) (λ e. Returned self.old.account duty e) }
@@ -28,7 +28,7 @@ impl<S: Schedule> Book<S> {
         self.spend(duty, Mark::Filed)
     }
 
-    /// Spends the duty and marks its month missed; no rate is announced. A refused duty comes back.
+    /// Spends the duty and marks its month missed; no rate is announced. Refused as `file` is.
     pub fn give_up(&mut self, duty: Duty) -> Result<(), ReturnedDuty>
         ensures schedule { self.new.schedule ≡ self.old.schedule }
         ensures cases { MatchResult result (λ _. Spent self.old.account self.new.account duty Missed) (λ e. Returned self.old.account duty e) }

@@ -10,7 +10,7 @@ use crate::opening::Opening;
 use schedule::Schedule;
 
 impl<S: Schedule> Book<S> {
-    /// Opens a closed book; its starting rates are thereby announced.
+    /// Opens a closed book; its starting rates are thereby announced. Refused by question 15, at the places 2 to 6, and then the book is as it was.
     pub fn open(&mut self, opening: &Opening) -> Result<(), BookFault>
         ensures schedule { self.new.schedule ≡ self.old.schedule }
         ensures cases { MatchResult result
@@ -27,7 +27,7 @@ impl<S: Schedule> Book<S> {
 }
 
 impl<S: Schedule + Drop> Book<S> {
-    /// Opens a closed book over the schedule that is handed in. A refused opening leaves it the one that it had.
+    /// Opens a closed book over the schedule that is handed in. Refused as `open` is, and then the book is as it was, its schedule included.
     pub fn open_with(&mut self, schedule: S, opening: &Opening) -> Result<(), BookFault>
         ensures schedule { OnOk result (self.new.schedule ≡ schedule) }
         ensures cases { MatchResult result

@@ -21,7 +21,8 @@ fn units_at(rates: &Rates, mechanism: usize) -> Option<i64>
 }
 
 impl<S: Schedule> Book<S> {
-    /// What is outstanding of a mechanism, in units.
+    /// What is outstanding of a mechanism, in units: above zero it is still to be recovered, below zero to be given back. None on a closed book, and
+    /// for a number that names no mechanism.
     pub fn outstanding(&self, mechanism: usize) -> Option<i64>
         ensures { result ≡ outstanding_told (S.Schedule.meaning self.now.schedule) self.now.account mechanism }
     {
@@ -36,7 +37,7 @@ impl<S: Schedule> Book<S> {
         )
     }
 
-    /// What is outstanding of all mechanisms together, in units.
+    /// What is outstanding of all mechanisms together, in units; None on a closed book.
     pub fn total(&self) -> Option<i64>
         ensures { result ≡ total_told (S.Schedule.meaning self.now.schedule) self.now.account }
     {
@@ -59,14 +60,14 @@ impl<S: Schedule> Book<S> {
         }
     }
 
-    /// The rate last announced for a mechanism, in units per kWh.
+    /// The rate last announced for a mechanism, in units per kWh; None as for `outstanding`.
     pub fn announced(&self, mechanism: usize) -> Option<i64>
         ensures { result ≡ announced_told self.now.account mechanism }
     {
         units_at(&self.opened?.announced, mechanism)
     }
 
-    /// The rate that a month was billed at for a mechanism.
+    /// The rate that a month was billed at for a mechanism, in units per kWh; None also for a month that does not stand.
     pub fn billed(&self, month: u16, mechanism: usize) -> Option<i64>
         ensures { result ≡ billed_told self.now.account month mechanism }
     {
@@ -82,7 +83,7 @@ impl<S: Schedule> Book<S> {
         of_month(self.records.as_slice(), usize::from(month))
     }
 
-    /// Whether a month's filing is pending, was made or was missed.
+    /// Whether a month's filing is pending, was made or was missed; None for a month that does not stand.
     pub fn mark(&self, month: u16) -> Option<Mark>
         ensures { result ≡ mark_told self.now.account month }
     {
@@ -100,7 +101,7 @@ impl<S: Schedule> Book<S> {
         marks
     }
 
-    /// The figures that a month closed with.
+    /// The figures that a month closed with, in units; None for a month that does not stand.
     pub fn closing(&self, month: u16) -> Option<Closing>
         ensures { result ≡ closing_told self.now.account month }
     {

@@ -13,7 +13,7 @@ use monthfile::write_month;
 use schedule::Schedule;
 
 impl<S: Schedule> Book<S> {
-    /// Fills the start of the lent buffer with the month's file, and answers its length. A short buffer is left as it was.
+    /// Fills the start of the lent buffer with the month's file, and answers its length. Refused by questions 12 and 16, and then the buffer is as it was.
     #[tactic(auto, using(crate::proofs::Written::wrote_month, crate::proofs::Written::not_written))]
     pub fn write(&self, month: u16, buffer: &mut [u8]) -> Result<usize, BookFault>
         ensures { MatchResult result

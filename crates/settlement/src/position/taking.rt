@@ -2,7 +2,7 @@
 ghost use Rattle.std.specs.Prelude.{◌≤◌, map, length, MatchOption};
 ghost use Rattle.bounded.specs.View.{held};
 ghost use Rattle.month.specs.View.{figures};
-ghost use Rattle.schedule.specs.Rows.{IsAsked, numbered};
+ghost use Rattle.schedule.specs.Rows.{MayBeAsked, numbered};
 ghost use Rattle.settlement.specs.Settling.{units_of, opening_units, EachSettleable};
 ghost use Rattle.settlement.specs.Months.{Settleable};
 ghost use Rattle.settlement.specs.Positions.{IsPosition, ArePositions};
@@ -29,7 +29,7 @@ fn position<S: Schedule>(
     months: &[Month],
     bills: &[Rates],
 ) -> Option<Position>
-    ensures { IsAsked (S.Schedule.meaning schedule.now) number → MatchOption result
+    ensures { MayBeAsked (S.Schedule.meaning schedule.now) number → MatchOption result
         (¬ Settleable (numbered (S.Schedule.meaning schedule.now) number) (map figures months.now))
         (λ p. Settleable (numbered (S.Schedule.meaning schedule.now) number) (map figures months.now)
         × IsPosition (numbered (S.Schedule.meaning schedule.now) number) number opening.units (map figures months.now) (map units_of bills.now) p) }
@@ -44,7 +44,7 @@ fn position<S: Schedule>(
     })
 }
 
-/// The positions of all mechanisms, of which each has an opening balance; None where one has none, or cannot be settled.
+/// The positions of all mechanisms; None where there are not as many opening balances as mechanisms, or one cannot be settled.
 #[tactic(auto, using(crate::proofs::Taken::no_positions))]
 pub(crate) fn positions<S: Schedule>(
     schedule: &S,
