@@ -90,7 +90,7 @@ pub fn outstanding<S: Schedule>(
 }
 
 /// What is outstanding of all mechanisms together, in units; None where there are not as many opening balances as mechanisms, or what is
-/// outstanding of one is None.
+/// outstanding of one is None. With no mechanism it is 0, whatever the months are.
 pub fn total<S: Schedule>(
     schedule: &S,
     balances: &Balances,

@@ -66,7 +66,7 @@ fn announce(positions: &Positions, terms: &Terms, standing: Standing, barred: bo
 
 /// The answer for the last of the months, by what each was billed and by the record of the month before the last, where one stands; None where
 /// there are not as many opening balances as mechanisms, no month stands or more than 36 do, or an answer of a mechanism breaks the law, as none does where the months
-/// can stand.
+/// can stand. With no mechanism there is nothing to ask, and it answers whatever the months are.
 pub fn settle<S: Schedule>(
     schedule: &S,
     terms: &Terms,
