@@ -15,7 +15,7 @@ use Rattle.settlement.specs.Numbers.{by_number}
 use Rattle.settlement.specs.declared.amounts.Rate.{Rate}
 use Rattle.settlement.specs.declared.record.Record.{Record}
 use Rattle.book.specs.Account.{BookState, held_by}
-use Rattle.book.specs.Postings.{has_place, posting_asked}
+use Rattle.book.specs.Postings.{has_place, fit_asked, posting_asked, FitForEach}
 use Rattle.book.specs.declared.fault.BookFault.TheVariants.{NotFit}
 use Rattle.book.specs.declared.kind.PostingKind.{PostingKind}
 use Rattle.book.specs.declared.kind.PostingKind.TheVariants.{Entry, Amendment}
@@ -38,14 +38,18 @@ asked_inside kind meaning held now m is clear = subst (λ b. first_no (posting_a
 
 pub record Admits (kind : PostingKind) (row : List Meaning) (standing : ℕ) (m : Figures) : Type 0 where
   pub placed : has_place kind m.month standing ≡ true
-  pub fit : (i : ℕ) → i < length row → (numbered row i).fit m ≡ true
+  pub fit : FitForEach row m
+
+-- a yes to question 13
+pub fit_for_each : (row : List Meaning) (m : Figures) → Yes (fit_asked row (length row) m) → FitForEach row m
+fit_for_each row m all i inside = yes_numbered (λ n. ((numbered row n).fit m, NotFit n)) (length row) i inside all
 
 pub admits : (kind : PostingKind) (row : List Meaning) (o : Opened) (months : List Month) (billed : List (UpTo Rate 8)) (records : List Record) (m : Figures) → first_no (posting_asked kind row (held_by (Some o) months billed records) m) ≡ None → Admits kind row (length months) m
 admits kind row o months billed records m clear =
     let yes = all_yes (posting_asked kind row (held_by (Some o) months billed records) m) clear in
     record {
       placed = ap (has_place kind m.month) (sym (length-map months figures)) ∙ yes.0;
-      fit = λ i inside. yes_numbered (λ n. ((numbered row n).fit m, NotFit n)) (length row) i inside yes.1;
+      fit = fit_for_each row m yes.1;
     }
 
 -- an entry is of the month after those that stand

@@ -19,11 +19,11 @@ use Rattle.book.specs.Account.{Account, marks_of, marks_told, closings_of}
 use Rattle.book.specs.Amending.{replaced, record_before_last, answer_now, settled_now, SomeMonth, Replaces, SettlesNow, Amended, AmendmentKeeps, AmendmentKeepsBook, closed_by}
 use Rattle.book.specs.Opening.{OpeningNumbers}
 use Rattle.book.specs.Places.{of_month, changed_at, changed_month}
-use Rattle.book.specs.Postings.{has_place, posting_asked}
+use Rattle.book.specs.Postings.{has_place, posting_asked, FitForEach}
 use Rattle.book.specs.Reconciled.{Reconciled, BookReconciled, ByRule, standing_left, tally_of}
 use Rattle.book.specs.Tally.{Posting, Posts, amendment, barred_by, posted}
 use Rattle.book.specs.declared.kind.PostingKind.TheVariants.{Amendment}
-use Rattle.book.proofs.Admits.{standing_month}
+use Rattle.book.proofs.Admits.{fit_for_each, standing_month}
 use Rattle.book.proofs.Changed.{changed_place, changed_last, take_before, of_other_month, length_changed, map_changed_at, map_kept, last_of}
 use Rattle.book.proofs.OfMonth.{of_month_before}
 use Rattle.book.proofs.Posted.{AcceptsPosting, posting_reconciled}
@@ -105,16 +105,17 @@ module _ (row : List Meaning) (o : OpeningNumbers) (ps : List Posting) (a : Acco
   barred_by_marks : is_barred (record_before_last a) ≡ barred_by (marks_of a) (length months_now)
   barred_by_marks = bar_by_marks a.records (length a.records - 1) ∙ ap (λ k. not_filed (of_month (marks_of a) k)) before_last
 
-  ruled : Valid m → ByRule row o (tally_of a) amended
-  ruled valid = record {
+  ruled : Valid m → FitForEach row m → ByRule row o (tally_of a) amended
+  ruled valid fit = record {
     valid = valid;
+    fit = fit;
     placed = placed;
     marks = length-map a.records (λ (x : Record). x.mark) ∙ r.recorded;
     answer = λ i. settled row (r.spread i) (r.balances i) months_now a.billed (left_by_tally i) (barred_by_marks i);
   }
 
-  accepts_amendment : Valid m → file ≡ file_of m → AcceptsPosting row o a amended (settled_now row (replaced m a))
-  accepts_amendment valid is =
+  accepts_amendment : Valid m → FitForEach row m → file ≡ file_of m → AcceptsPosting row o a amended (settled_now row (replaced m a))
+  accepts_amendment valid fit is =
       let stands = standing_month m.month (length a.months) placed in
       let split = last_of a.records (omega (arith, stands.0, stands.1, r.recorded)) in
       record {
@@ -125,11 +126,11 @@ module _ (row : List Meaning) (o : OpeningNumbers) (ps : List Posting) (a : Acco
         standings = standings_carried settled_answer a.records split.0 split.1 split.2 r.standings refl;
         closed = last_carried settled_answer a.records split.0 split.1 split.2;
         file = is;
-        by_rule = ruled valid;
+        by_rule = ruled valid fit;
       }
 
-  amendment_reconciled : Valid m → file ≡ file_of m → Reconciled row o (ps ++ amended ∷ []) (settled_now row (replaced m a))
-  amendment_reconciled valid is = posting_reconciled row o ps a r amended (settled_now row (replaced m a)) (accepts_amendment valid is)
+  amendment_reconciled : Valid m → FitForEach row m → file ≡ file_of m → Reconciled row o (ps ++ amended ∷ []) (settled_now row (replaced m a))
+  amendment_reconciled valid fit is = posting_reconciled row o ps a r amended (settled_now row (replaced m a)) (accepts_amendment valid fit is)
 
 -- a month stands where one was replaced
 pub some_replaced : (row : List Meaning) (before after : Option Account) (m : Figures) → first_no (posting_asked Amendment row before m) ≡ None → Replaces before after m → SomeMonth after
@@ -165,6 +166,6 @@ module _ (row : List Meaning) (before after : Option Account) (file : List ℕ) 
   amended_reconciled o ps more r posts =
       let held = subst (BookReconciled row o ps) s.open_before r in
       let clear = subst (λ x. first_no (posting_asked Amendment row x s.stated) ≡ None) s.open_before s.asked in
-      let placed = (all_yes (posting_asked Amendment row (Some s.account) s.stated) clear).0 in
+      let yes = all_yes (posting_asked Amendment row (Some s.account) s.stated) clear in
       let same = file_same s.stated posts.stated (sym s.file_states ∙ posts.states) in
-      rw (posts.more, s.open_before, s.book, s.answer_is, ← same) (amendment_reconciled row o ps s.account s.stated file held placed s.valid s.file_states)
+      rw (posts.more, s.open_before, s.book, s.answer_is, ← same) (amendment_reconciled row o ps s.account s.stated file held yes.0 s.valid (fit_for_each row s.stated yes.1) s.file_states)

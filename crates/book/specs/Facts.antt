@@ -20,7 +20,7 @@ use Rattle.settlement.specs.declared.standing.Standing.TheVariants.{Correcting}
 use Rattle.book.specs.Account.{Account}
 use Rattle.book.specs.Opening.{OpeningNumbers}
 use Rattle.book.specs.Places.{of_month}
-use Rattle.book.specs.Postings.{has_place}
+use Rattle.book.specs.Postings.{has_place, FitForEach}
 use Rattle.book.specs.Reading.{outstanding_told, total_told, mark_told, standing_told, announced_told}
 use Rattle.book.specs.Reading.{billed_told, closing_told, file_told as written_told}
 use Rattle.book.specs.Sums.{opening_balance, all_allowances, all_billed, all_quantities, over_months}
@@ -136,10 +136,11 @@ pub record ToldAsCounted (row : List Meaning) (t : Tally) (outstanding : ℕ →
   pub all_marked : length marks ≡ length t.months
   pub mark : (month : ℕ) → read.mark month ≡ of_month marks month
 
--- a posting was counted after those before it: its file is that of valid figures, which have their place
--- after the months that stood, and it has a mark of each of these
-pub record PostingCounted (before : Tally) (p : Posting) : Type 0 where
+-- a posting was counted after those before it: its file is that of valid figures, which each mechanism
+-- finds fit and which have their place after the months that stood, and it has a mark of each of these
+pub record PostingCounted (row : List Meaning) (before : Tally) (p : Posting) : Type 0 where
   pub valid : Valid p.stated
+  pub fit : FitForEach row p.stated
   pub file : p.file ≡ file_of p.stated
   pub placed : has_place p.kind p.stated.month (length before.months) ≡ true
   pub marked : length p.marks ≡ length before.months
@@ -154,7 +155,7 @@ EachPosting o ps holds =
 -- that it was billed at and its closing figures. There is a balance and, in each list of rates, a rate
 -- for each mechanism, so that no sum takes a 0 for one that is missing
 pub record Counted (row : List Meaning) (o : OpeningNumbers) (ps : List Posting) (t : Tally) : Type 0 where
-  pub postings : EachPosting o ps (λ before p after. PostingCounted before p)
+  pub postings : EachPosting o ps (λ before p after. PostingCounted row before p)
   pub in_order : map (λ m. m.month) t.months ≡ by_number suc (length t.months)
   pub all_billed : length t.billed ≡ length t.months
   pub all_closed : length t.closings ≡ length t.months

@@ -1,5 +1,5 @@
 -- What is asked of a file that is to be entered, or to amend a month. One that is accepted is a posting.
-use Rattle.std.specs.Prelude.{◌≡◌, ℕ, ◌+◌, Bool, false, ◌&&◌, List, ◌∷◌, ◌++◌, length, Option, Some, None, ◌==◌, nat_le}
+use Rattle.std.specs.Prelude.{◌≡◌, ℕ, ◌+◌, ◌<◌, Bool, true, false, ◌&&◌, List, ◌∷◌, ◌++◌, length, Option, Some, None, ◌==◌, nat_le}
 use Rattle.charges.specs.Meaning.{Meaning}
 use Rattle.fields.specs.Questions.{first_no, carried}
 use Rattle.month.specs.Figures.{Figures}
@@ -27,6 +27,10 @@ is_placed kind (Some a) m = has_place kind m.month (length a.months)
 -- question 13, of n mechanisms by number
 abbrev pub fit_asked : List Meaning → ℕ → Figures → List (Bool × BookFault)
 fit_asked row n m = by_number (λ i. ((numbered row i).fit m, NotFit i)) n
+
+-- each mechanism finds the month fit
+abbrev pub FitForEach : List Meaning → Figures → Type 0
+FitForEach row m = (i : ℕ) → i < length row → (numbered row i).fit m ≡ true
 
 -- questions 12 and 13
 abbrev pub posting_asked : PostingKind → List Meaning → Option Account → Figures → List (Bool × BookFault)

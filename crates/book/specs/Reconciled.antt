@@ -12,7 +12,7 @@ use Rattle.settlement.specs.declared.standing.Standing.TheVariants.{Steady}
 use Rattle.book.specs.Account.{Account, closings_of}
 use Rattle.book.specs.Opening.{OpeningNumbers}
 use Rattle.book.specs.Places.{of_month}
-use Rattle.book.specs.Postings.{has_place}
+use Rattle.book.specs.Postings.{has_place, FitForEach}
 use Rattle.book.specs.Tally.{Posting, Tally, barred_by, posted, tally}
 
 -- the standing that months leave which closed with these figures, the oldest first
@@ -25,6 +25,7 @@ standing_left closings = fold standing_after Steady closings
 -- posting is made (Tally.antt)
 pub record ByRule (row : List Meaning) (o : OpeningNumbers) (before : Tally) (p : Posting) : Type 0 where
   pub valid : Valid p.stated
+  pub fit : FitForEach row p.stated
   pub placed : has_place p.kind p.stated.month (length before.months) ≡ true
   pub marks : length p.marks ≡ length before.months
   pub answer :
