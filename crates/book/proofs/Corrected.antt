@@ -11,7 +11,7 @@ use Rattle.month.specs.Figures.{Figures}
 use Rattle.month.specs.View.{figures}
 use Rattle.month.specs.declared.month.Month.{Month}
 use Rattle.schedule.specs.Rows.{numbered}
-use Rattle.settlement.specs.CorrectionLaws.{Announcement, unit_comes_to}
+use Rattle.settlement.specs.CorrectionLaws.{Announcement, unit_comes_to, rate_by_rule}
 use Rattle.settlement.specs.Corrections.{is_barred}
 use Rattle.settlement.specs.Months.{quantity_at}
 use Rattle.settlement.specs.Numbers.{by_number}
@@ -21,7 +21,6 @@ use Rattle.settlement.specs.declared.amounts.Rate.{Rate}
 use Rattle.settlement.specs.declared.record.Mark.TheVariants.{Pending}
 use Rattle.settlement.specs.declared.record.Record.{Record}
 use Rattle.settlement.specs.declared.standing.Standing.{Standing}
-use Rattle.settlement.proofs.CorrectionLaws.{rate_by_rule}
 use Rattle.book.specs.Account.{Account, account_of, held_by, standing_of}
 use Rattle.book.specs.Amending.{record_before_last, SettlesNow, SomeMonth, settled_now, answer_now, closed_by}
 use Rattle.book.specs.Corrected.{Announces, EachAnnounced, Correctable, BookCorrectable}

@@ -1,10 +1,10 @@
 -- A rate is the one that the rules give exactly where it keeps the laws of a correction.
-use Rattle.std.proofs.Common.{◌≡◌, ◌↔◌, ℕ, zero, suc, ◌+◌, ◌*◌, ◌/◌, ◌<◌, ◌≤◌, ◌⊎◌, inl, inr, Bool, true, false, refl, ap, sym, ◌∙◌, ℤ, pos, negsuc, neg_ℤ, nat_abs, ◌+ℤ◌, ◌-ℤ◌, ◌<ℤ◌, Option, Some, None, div-mul-le_self, arith}
+use Rattle.std.proofs.Common.{◌≡◌, ℕ, zero, suc, ◌+◌, ◌*◌, ◌/◌, ◌<◌, ◌≤◌, ◌⊎◌, inl, inr, Bool, true, false, refl, ap, sym, ◌∙◌, ℤ, pos, negsuc, neg_ℤ, nat_abs, ◌+ℤ◌, ◌-ℤ◌, ◌<ℤ◌, Option, Some, None, div-mul-le_self, arith}
 use Rattle.std.proofs.Math.Nat.{lt-div-mul-add, div-le_self, mul-le-mul_right}
 use Rattle.std.proofs.lemmas.Bool.{cases_lt}
 use Rattle.std.proofs.lemmas.Int.{ints, clamps}
-use Rattle.settlement.specs.CorrectionLaws.{Announcement, difference, unit_comes_to, Unbarred, Corrects, Rounds}
-use Rattle.settlement.specs.Corrections.{not_filed, spread_over, cut, unless_barred, correction, coming_rate}
+use Rattle.settlement.specs.CorrectionLaws.{Announcement, difference, unit_comes_to, Unbarred, Corrects, Rounds, rate_by_rule, LawsSettleTheRate}
+use Rattle.settlement.specs.Corrections.{not_filed, spread_over, cut, unless_barred, correction}
 use Rattle.settlement.specs.declared.record.Mark.{Mark}
 use Rattle.settlement.specs.declared.record.Mark.TheVariants.{Pending, Filed, Missed}
 use Rattle.settlement.specs.declared.standing.Standing.{Standing}
@@ -141,10 +141,6 @@ module _ (mark : Option Mark) (spread : ℕ) (balance : ℤ) (quantity : ℕ) wh
       let size : nat_abs (given Correcting) ≡ nat_abs balance / d = ap nat_abs is ∙ spread_size d balance in
       rw size (omega (arith, lt-div-mul-add {a = nat_abs balance} {b = d} some))
 
--- the rate that the rules give
-abbrev pub rate_by_rule : Announcement → ℤ
-rate_by_rule a = coming_rate a.base_rate a.standing (not_filed a.mark) a.spread a.outstanding a.quantity
-
 -- it keeps the laws
 module _ (a : Announcement) (some : 1 ≤ unit_comes_to a) (is : a.rate ≡ rate_by_rule a) where
   is_given : difference a ≡ given a.mark a.spread a.outstanding a.quantity a.standing
@@ -196,8 +192,7 @@ one_rate a r laws rounded laws_too rounded_too = elim (steady_or_correcting a.st
       ]
 ]
 
--- a rate is announced as the rules say exactly where it keeps both laws
-pub by_both_laws : (a : Announcement) → 1 ≤ unit_comes_to a → (a.rate ≡ rate_by_rule a) ↔ (Corrects a × Rounds a)
+pub by_both_laws : LawsSettleTheRate
 by_both_laws a some =
     let r = rate_by_rule a in
     (λ is. (corrects a some is, rounds a some is), λ laws. sym (one_rate a r laws.0 laws.1 (corrects (at_rate a r) some refl) (rounds (at_rate a r) some refl)))

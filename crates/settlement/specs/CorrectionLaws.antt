@@ -1,5 +1,6 @@
--- What a correction does, by what is announced and what it is announced by. Nothing here divides or cuts: these are laws above `correction`.
-use Rattle.std.specs.Prelude.{◌≡◌, ℕ, ◌+◌, ◌*◌, ◌<◌, ◌≤◌, ℤ, pos, nat_abs, ◌-ℤ◌, ◌<ℤ◌, Option, Some, None, ⊤}
+-- What a correction does, by what is announced and what it is announced by. Neither law divides or cuts: they stand above `correction`.
+use Rattle.std.specs.Prelude.{◌≡◌, ◌↔◌, ℕ, ◌+◌, ◌*◌, ◌<◌, ◌≤◌, ℤ, pos, nat_abs, ◌-ℤ◌, ◌<ℤ◌, Option, Some, None, ⊤}
+use Rattle.settlement.specs.Corrections.{coming_rate, not_filed}
 use Rattle.settlement.specs.declared.record.Mark.{Mark}
 use Rattle.settlement.specs.declared.record.Mark.TheVariants.{Filed}
 use Rattle.settlement.specs.declared.standing.Standing.{Standing}
@@ -44,3 +45,11 @@ pub record Rounds (a : Announcement) : Type 0 where
   pub covered : nat_abs (difference a) * unit_comes_to a ≤ nat_abs a.outstanding
   pub tight : a.standing ≡ Correcting → (pos 0 <ℤ a.outstanding → Unbarred a.mark) → nat_abs (difference a) < 1000000
       → nat_abs a.outstanding < (nat_abs (difference a) + 1) * unit_comes_to a
+
+-- the rate that the rules announce
+abbrev pub rate_by_rule : Announcement → ℤ
+rate_by_rule a = coming_rate a.base_rate a.standing (not_filed a.mark) a.spread a.outstanding a.quantity
+
+-- the two laws settle the rate: where one unit comes to something, it is the one of the rules exactly where it keeps both
+abbrev pub LawsSettleTheRate : Type 0
+LawsSettleTheRate = (a : Announcement) → 1 ≤ unit_comes_to a → (a.rate ≡ rate_by_rule a) ↔ (Corrects a × Rounds a)

@@ -3,6 +3,7 @@ ghost use Rattle.std.specs.Prelude.{◌≡◌, map, length, sum_by, MatchOption}
 ghost use Rattle.bounded.specs.View.{held};
 ghost use Rattle.month.specs.View.{figures};
 ghost use Rattle.settlement.specs.Settling.{units_of, opening_units, answered, settled, standing_after, left_by, EachSettleable};
+ghost use Rattle.settlement.specs.CorrectionLaws.{LawsSettleTheRate};
 ghost use Rattle.settlement.specs.Corrections.{is_barred};
 ghost use Rattle.settlement.specs.Numbers.{int_sum};
 ghost use Rattle.settlement.specs.Positions.{outstanding_of, recent_of, corrected};
@@ -65,8 +66,9 @@ fn announce(positions: &Positions, terms: &Terms, standing: Standing, barred: bo
 }
 
 /// The answer for the last of the months, by what each was billed and by the record of the month before the last, where one stands; None where
-/// there are not as many opening balances as mechanisms, no month stands or more than 36 do, or an answer of a mechanism breaks the law, as none does where the months
-/// can stand. With no mechanism there is nothing to ask, and it answers whatever the months are.
+/// there are not as many opening balances as mechanisms, no month stands or more than 36 do, or an answer of a mechanism breaks the law, as
+/// none does where the months can stand. With no mechanism there is nothing to ask, and it answers whatever the months are.
+#[tactic(auto, using(crate::proofs::CorrectionLaws::by_both_laws))]
 pub fn settle<S: Schedule>(
     schedule: &S,
     terms: &Terms,
@@ -74,12 +76,14 @@ pub fn settle<S: Schedule>(
     bills: &[Rates],
     before: Option<Record>,
 ) -> Option<Answer>
-    ensures { MatchOption result
+    ensures cases { MatchOption result
         (¬ EachSettleable (S.Schedule.meaning schedule.now) (length (opening_units terms.now.balances)) (map figures months.now))
         (λ a. EachSettleable (S.Schedule.meaning schedule.now) (length (opening_units terms.now.balances)) (map figures months.now)
         × (answered a
         ≡ settled (S.Schedule.meaning schedule.now) terms.now.spread.months (opening_units terms.now.balances) (map figures months.now)
         (map units_of bills.now) (left_by before) (is_barred before))) }
+    // A law of the rates that are announced; it asks nothing of this body.
+    ensures laws { LawsSettleTheRate }
 {
     let positions = positions(schedule, &terms.balances, months, bills)?;
     let closing = close(&positions);

@@ -11,7 +11,7 @@ unreachable-requires-in_default-settle g c =
     let row = g.S.Schedule.meaning b.schedule in
     let some = subst (λ x. SomeMonth x.account) (sym c.self.view_is) c.requires in
     let can = settles_now row b.months.items b.billed.items b.records.items c.in-Some.opened c.in-Some.is (g.met.S.Schedule.lawful b.schedule) c.self.invariant.0 some in
-    c.in_default-settle.ensures (rw c.as_slice.ensures.value can)
+    c.in_default-settle.ensures.cases (rw c.as_slice.ensures.value can)
 
 pub returns-clause-settled : goal.returns-clause-settled
 returns-clause-settled g c =
@@ -20,7 +20,7 @@ returns-clause-settled g c =
     let some = subst (λ x. SomeMonth x.account) (sym c.self.view_is) c.requires in
     let recorded = some_recorded row b.months.items b.billed.items b.records.items b.opened c.self.invariant.0 some in
     let long : length b.records.items ≡ (c.len-last.result - 1) + 1 = omega arith in
-    rw (← c.self.view_is, c.in-Some.is) (settled_by_write row b.months.items b.billed.items b.records.items c.in-Some.opened _ c.index.result.now c.of_month.result c.in-Some-settle.answer long c.index.ensures (rw (← c.as_slice-3.ensures.value) c.of_month.ensures) (rw (← c.as_slice.ensures.value, ← c.as_slice-2.ensures.value) c.in-Some-settle.ensures.1))
+    rw (← c.self.view_is, c.in-Some.is) (settled_by_write row b.months.items b.billed.items b.records.items c.in-Some.opened _ c.index.result.now c.of_month.result c.in-Some-settle.answer long c.index.ensures (rw (← c.as_slice-3.ensures.value) c.of_month.ensures) (rw (← c.as_slice.ensures.value, ← c.as_slice-2.ensures.value) c.in-Some-settle.ensures.cases.1))
 
 pub returns-clause-correctable : goal.returns-clause-correctable
 returns-clause-correctable g c =

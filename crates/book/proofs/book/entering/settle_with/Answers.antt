@@ -22,6 +22,6 @@ returns g c room_month room_billed =
     λ ms bills before. MatchOption answer (¬ EachSettleable row (length balances) ms) (λ a. EachSettleable row (length balances) ms × (answered a ≡ settled row opened.terms.spread.months balances ms bills (left_by before) (is_barred before))) in
     let settled_months = map figures c.as_slice.result.now in
     let settled_bills = map units_of c.as_slice-2.result.now in
-    let by_months = subst (λ (ms : List Figures). settles ms settled_bills c.of_month.result) months c.settle.ensures in
+    let by_months = subst (λ (ms : List Figures). settles ms settled_bills c.of_month.result) months c.settle.ensures.cases in
     let by_billed = subst (λ (bills : List (List ℤ)). settles (map figures c.args.months.now ++ figures c.args.month ∷ []) bills c.of_month.result) billed by_months in
     subst (λ (before : Option Record). settles (map figures c.args.months.now ++ figures c.args.month ∷ []) (map units_of c.args.billed.now ++ units_of opened.announced ∷ []) before) c.of_month.ensures by_billed
