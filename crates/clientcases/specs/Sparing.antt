@@ -9,7 +9,7 @@ use Rattle.client.specs.declared.call.Call.{Call}
 use Rattle.client.specs.declared.call.Call.TheVariants.{File, GiveUp}
 use Rattle.clientcases.specs.declared.sparing.Sparing.{Sparing}
 
--- a duty is given up and not filed where nothing is outstanding; any other call is made as it is
+-- a duty is given up and not filed where nothing is still to be recovered; any other call is made as it is
 abbrev pub spared : Option ℤ → Call → Call
 spared (Some units) (File duty) = if int_le units (pos 0) then GiveUp duty else File duty
 spared outstanding call = call

@@ -12,7 +12,7 @@ pub record PrintsRun (unread old new : Option (List ℕ)) : Type 0 where
   pub run : Printed closed stream [] lines after
   pub written : Appends old new lines
 
--- the run broke off for want of memory, and the lines that it had by then are written behind what the writer had
+-- the run broke off, whatever room it had, and the lines that it had by then are written behind what the writer had
 pub record PrintsBeginning (unread old new : Option (List ℕ)) : Type 0 where
   pub stream : List ℕ
   pub read : IfSome unread (λ bytes. stream ≡ bytes)
