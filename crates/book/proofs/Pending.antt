@@ -1,16 +1,19 @@
 -- Which filings are left pending.
-use Rattle.std.proofs.Common.{◌≡◌, ℕ, zero, suc, Bool, true, false, List, [], ◌∷◌, ◌++◌, map, Option, Some, None, slice_get, refl, ap, sym, ◌∙◌}
+use Rattle.std.proofs.Common.{◌≡◌, ℕ, zero, suc, Bool, true, false, List, [], ◌∷◌, ◌++◌, map, Option, Some, None, Ok, Err, Result, IsOk, MatchResult, ◌↔◌, ◌==◌, slice_get, refl, ap, sym, ◌∙◌, arith}
+use Rattle.std.specs.Cmp.Derive.{both_true}
 use Rattle.std.specs.Option.{option_map}
 use Rattle.std.proofs.lemmas.Bool.{and_parts, false≢true}
-use Rattle.fields.proofs.Asked.{all_yes}
+use Rattle.std.proofs.lemmas.Bool.Decides.{nat_tests}
+use Rattle.fields.proofs.Asked.{all_yes, none_from_yes, some_none}
 use Rattle.settlement.specs.declared.record.Mark.{Mark}
 use Rattle.settlement.specs.declared.record.Mark.TheVariants.{Pending, Filed, Missed}
 use Rattle.settlement.specs.declared.record.Record.{Record}
 use Rattle.book.specs.Account.{Account}
 use Rattle.book.specs.Amending.{AmendmentKeeps}
-use Rattle.book.specs.Duties.{is_pending, pends, is_owed, duty_asked, Spent}
+use Rattle.book.specs.Duties.{is_pending, pends, is_owed, Owes, duty_asked, Spent, Returned}
 use Rattle.book.specs.Places.{of_month, changed_at, changed_month}
 use Rattle.book.specs.declared.duty.Duty.{Duty}
+use Rattle.book.specs.declared.duty.ReturnedDuty.{ReturnedDuty}
 use Rattle.book.proofs.OfMonth.{of_month_map}
 
 -- no record at any place pends
@@ -33,6 +36,38 @@ is_told_pending (Some mark) = is_pending mark
 pends_by_mark : (r : Option Record) → pends r ≡ is_told_pending (option_map (λ r. r.mark) r)
 pends_by_mark None = refl
 pends_by_mark (Some r) = refl
+
+told_pending : (r : Option Record) → pends r ≡ true → option_map (λ r. r.mark) r ≡ Some Pending
+told_pending None is = absurd (false≢true is)
+told_pending (Some r) is = ap Some (mark_is_pending r.mark is)
+
+same_number : (m n : ℕ) → (m == n) ≡ true → m ≡ n
+same_number m n is = grind (arith, nat_tests)
+
+equal_number : (m n : ℕ) → m ≡ n → (m == n) ≡ true
+equal_number m n is = grind (arith, nat_tests)
+
+-- a duty that is owed is so in the words of the rule, and the other way round
+owed_by_rule : (account : Option Account) (duty : Duty) → is_owed account duty ≡ true → Owes account duty
+owed_by_rule None duty is = absurd (false≢true is)
+owed_by_rule (Some a) duty is =
+    let both = and_parts _ _ is in
+    (same_number duty.book a.number both.0, told_pending (of_month a.records duty.month) both.1)
+
+owed_if_rule : (account : Option Account) (duty : Duty) → Owes account duty → is_owed account duty ≡ true
+owed_if_rule None duty owes = absurd owes
+owed_if_rule (Some a) duty owes =
+    let pending : pends (of_month a.records duty.month) ≡ true = pends_by_mark (of_month a.records duty.month) ∙ ap is_told_pending owes.1 in
+    both_true (equal_number duty.book a.number owes.0) pending
+
+-- a duty is spent exactly where the book owes it
+pub spent_where_owed : (r : Result Unit ReturnedDuty) (before after : Option Account) (duty : Duty) (mark : Mark)
+    → MatchResult r (λ _. Spent before after duty mark) (λ e. Returned before duty e) → IsOk r ↔ Owes before duty
+spent_where_owed (Ok _) before after duty mark s = (λ _. owed_by_rule before duty (all_yes (duty_asked before duty) s.asked).0, λ _. refl)
+spent_where_owed (Err e) before after duty mark s = (
+  λ ok. absurd (false≢true ok),
+  λ owes. absurd (some_none (sym s.first ∙ none_from_yes (duty_asked before duty) (owed_if_rule before duty owes, tt))),
+)
 
 -- whether a month pends, by the marks alone
 pends_marked : (rs : List Record) (month : ℕ) → pends (of_month rs month) ≡ is_told_pending (of_month (map (λ r. r.mark) rs) month)

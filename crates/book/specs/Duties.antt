@@ -7,6 +7,7 @@ use Rattle.fields.specs.Questions.{first_no}
 use Rattle.fields.specs.declared.refusal.Layer.TheVariants as layer
 use Rattle.book.specs.Account.{Account}
 use Rattle.book.specs.Places.{of_month, changed_month}
+use Rattle.book.specs.Reading.{mark_told}
 use Rattle.book.specs.Refusals.{book_refusal}
 use Rattle.book.specs.declared.duty.Duty.{Duty}
 use Rattle.book.specs.declared.duty.ReturnedDuty.{ReturnedDuty}
@@ -33,6 +34,11 @@ pends (Some r) = is_pending r.mark
 abbrev pub is_owed : Option Account → Duty → Bool
 is_owed None d = false
 is_owed (Some a) d = d.book == a.number && pends (of_month a.records d.month)
+
+-- the same in the words of the rule, by what the book tells: the duty has the number of the book, and its month the mark pending
+abbrev pub Owes : Option Account → Duty → Type 0
+Owes None d = ⊥
+Owes (Some a) d = (d.book ≡ a.number) × (mark_told (Some a) d.month ≡ Some Pending)
 
 -- question 14
 abbrev pub duty_asked : Option Account → Duty → List (Bool × BookFault)

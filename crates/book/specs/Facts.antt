@@ -109,7 +109,7 @@ pub record Read : Type 0 where
   pub mark : ℕ → Option Mark
   pub standing : Standing
 
--- this is what the calls that read a book answer
+-- this is what the calls that read a book answer, and the file that `write` puts into a buffer
 abbrev pub read_of : List Meaning → Option Account → Read
 read_of row account = record {
   outstanding = outstanding_told row account;
@@ -137,7 +137,8 @@ pub record ToldAsCounted (row : List Meaning) (t : Tally) (outstanding : ℕ →
   pub mark : (month : ℕ) → read.mark month ≡ of_month marks month
 
 -- a posting was counted after those before it: its file is that of valid figures, which each mechanism
--- finds fit and which have their place after the months that stood, and it has a mark of each of these
+-- finds fit; an entry is of the month after those that stood, an amendment of one of these; and it has a
+-- mark of each of these
 pub record PostingCounted (row : List Meaning) (before : Tally) (p : Posting) : Type 0 where
   pub valid : Valid p.stated
   pub fit : FitForEach row p.stated

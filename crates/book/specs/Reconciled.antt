@@ -19,9 +19,10 @@ use Rattle.book.specs.Tally.{Posting, Tally, barred_by, posted, tally}
 abbrev pub standing_left : List Closing → Standing
 standing_left closings = fold standing_after Steady closings
 
--- The figures of a posting are valid and have their place after the months counted before, there are as
--- many marks as these, and the answer settles the months that then stand, by the standing that the
--- closing figures before the last leave, and by the marks. That these are the book's is said where a
+-- The figures of a posting are valid and fit for each mechanism, and have their place by the months
+-- counted before: those of an entry follow them, those of an amendment are of one of them. There are as
+-- many marks as these months, and the answer settles the months that then stand, by the standing that
+-- the closing figures before the last leave, and by the marks. That these are the book's is said where a
 -- posting is made (Tally.antt)
 pub record ByRule (row : List Meaning) (o : OpeningNumbers) (before : Tally) (p : Posting) : Type 0 where
   pub valid : Valid p.stated

@@ -1,5 +1,6 @@
--- The tally: what anyone counts who sees only the numbers of the opening, the files that were accepted,
--- the answers to them and the marks read before each. Nothing here speaks of what a book stores.
+-- The tally: what anyone counts who sees only the numbers of the opening, the files that were accepted
+-- and the answers to them. The marks read before each file stand in its posting and in no tally: they
+-- serve to judge its answer. Nothing here speaks of what a book stores.
 use Rattle.std.specs.Prelude.{◌≡◌, ℕ, ◌-◌, Bool, List, [], ◌∷◌, ◌++◌, length, ℤ, fold}
 use Rattle.month.specs.Figures.{Figures}
 use Rattle.monthfile.specs.Layout.{file_of}

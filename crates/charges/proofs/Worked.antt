@@ -49,12 +49,12 @@ price_of_a_million = refl
 price_above_a_million : generation.fit (priced 10000010) ≡ false
 price_above_a_million = refl
 
--- half of the input lost in the substation; in the feeder, with a cap of 5 percent; in the feeder, with a cap of all of it
+-- half of the input lost in the substation; half of it in the feeder, with a cap of 5 percent; less in the feeder than the cap of 50 percent allows
 half_lost : gross_up 0 (record { input = 100; substation = 50; feeder = 0 }) ≡ 10000
 half_lost = refl
 
 feeder_capped : gross_up 500 (record { input = 100; substation = 0; feeder = 50 }) ≡ 1000
 feeder_capped = refl
 
-feeder_not_capped : gross_up 5000 (record { input = 100; substation = 0; feeder = 50 }) ≡ 10000
+feeder_not_capped : gross_up 5000 (record { input = 100; substation = 0; feeder = 40 }) ≡ 6666
 feeder_not_capped = refl

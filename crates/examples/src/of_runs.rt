@@ -4,7 +4,7 @@ use crate::opened::file;
 use book::{Book, Mark};
 use bounded::UpTo;
 use fields::{Layer, Refusal, ShortBuffer};
-use printed::{Call, Frame, Frames, Line, NoFrame, closed_book, work, write_run};
+use printed::{Call, Frame, Frames, Line, Lines, NoFrame, closed_book, work, write_run};
 use schedule::FourCharges;
 use settlement::{Answer, Closing, Rate, Standing};
 use std::alloc::AllocError;
@@ -160,9 +160,9 @@ fn exchange(
     rt: &impl Abort,
     book: &mut Book<FourCharges>,
     frame: &Frame,
-    lines: &mut Vec<u8>,
+    lines: &mut Lines,
 ) -> Result<(), AllocError> {
-    lines.try_reserve(512)?;
+    lines.reserve_line()?;
     match work(book, frame).tell(lines) {
         Ok(Some(duty)) => {
             assert_eq!(rt; duty.book(), 7);
@@ -183,7 +183,7 @@ fn frame_by_frame(rt: HostRuntime) -> Result<(), Fail> {
     let stream = [OPENING.as_slice(), &ENTRY, &amendment()].concat(rt.alloc())?;
     let mut frames = Frames::new(stream.as_slice());
     let mut book = closed_book(rt.alloc())?;
-    let mut lines = Vec::new(rt.alloc());
+    let mut lines = Lines::behind(Vec::new(rt.alloc()));
     for _ in 0..3 {
         let Some(frame) = frames.read()? else {
             return Err(Fail::new("no frame"));
@@ -194,7 +194,10 @@ fn frame_by_frame(rt: HostRuntime) -> Result<(), Fail> {
     let amended = format!(in rt.alloc();
         "{OPENED_AND_ENTERED}A 1 49833 10000 4649 3300 -99905398 7294094602 steady\n"
     )?;
-    assert_eq!(rt; String::from_utf8(lines)?.as_str(), amended.as_str());
+    assert_eq!(rt;
+        String::from_utf8(lines.into_bytes())?.as_str(),
+        amended.as_str()
+    );
     Ok(())
 }
 
@@ -206,14 +209,16 @@ fn run_goes_on(rt: HostRuntime) -> Result<(), Fail> {
     next_month[7] = 2;
     let second = [next_month.as_slice(), b"\x10\x00"].concat(rt.alloc())?;
     let mut book = closed_book(rt.alloc())?;
-    let mut output = Vec::new(rt.alloc());
-    output.extend_from_slice(b"here before\n")?;
+    let mut output = Lines::behind(Vec::from_slice(rt.alloc(), b"here before\n")?);
     write_run(&mut book, first.as_slice(), &mut output)?;
     write_run(&mut book, second.as_slice(), &mut output)?;
     let lines = format!(in rt.alloc();
         "here before\n{OPENED_AND_ENTERED}E 2 49791 10000 4645 3300 -104603690 14578484310 steady\nX 170\n"
     )?;
-    assert_eq!(rt; String::from_utf8(output)?.as_str(), lines.as_str());
+    assert_eq!(rt;
+        String::from_utf8(output.into_bytes())?.as_str(),
+        lines.as_str()
+    );
     Ok(())
 }
 
@@ -235,7 +240,7 @@ fn long_run(rt: HostRuntime) -> Result<(), Fail> {
     }
     stream.push(10)?;
     let mut book = closed_book(rt.alloc())?;
-    let mut output = Vec::new(rt.alloc());
+    let mut output = Lines::behind(Vec::new(rt.alloc()));
     write_run(&mut book, stream.as_slice(), &mut output)?;
     let output = output.as_slice();
     assert_eq!(rt; output.len(), 2_580_070);
@@ -263,9 +268,9 @@ fn lines_before_memory_lacks(rt: HostRuntime) -> Result<(), Fail> {
     let Ok(mut book) = closed_book(rt.alloc()) else {
         return Ok(());
     };
-    let mut output = Vec::new(rt.alloc());
+    let mut output = Lines::behind(Vec::new(rt.alloc()));
     let ran = write_run(&mut book, &stream, &mut output);
-    let ends = output.iter().filter(|byte| **byte == b'\n');
+    let ends = output.as_slice().iter().filter(|byte| **byte == b'\n');
     let lines = ends.count();
     assert_eq!(rt; lines == 37, ran.is_ok());
     for month in 1..37 {

@@ -40,7 +40,7 @@ pub record RefusesFile (cap : ℕ) (file page : List ℕ) (good : Bool) : Type 0
   pub lines : page ≡ text (refusal_lines (month_refusal fault) (month_sentence fault))
   pub none_good : good ≡ false
 
--- the cap is above its limit: question 15, asked before the file is read
+-- the cap is above its limit: question 15, asked before those of the file
 pub record RefusesCap (cap : ℕ) (page : List ℕ) (good : Bool) : Type 0 where
   pub fault : CapTooHigh
   pub refused : NotMade cap fault

@@ -58,7 +58,7 @@ fn answered(
     Ok(Checked { page, good })
 }
 
-/// The page of a file, by a cap in hundredths of a percent, which is asked about before the file is read.
+/// The page of a file, by a cap in hundredths of a percent, which is asked about before the file is.
 pub fn check(heap: Global, cap: u64, file: &[u8]) -> Result<Checked, AllocError>
     ensures cases { IfOk result (λ c. Checks cap file.now (string_bytes c.page) c.good) }
     // No other page is that of the file and the cap, and no other answer.

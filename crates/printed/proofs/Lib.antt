@@ -2,7 +2,7 @@ pub mod Openings
 pub mod Streams
 pub mod Journals
 pub mod Runs
-pub mod Lines
+pub mod OneLine
 pub mod Numerals
 pub mod Prefixes
 pub mod Once

@@ -1,7 +1,8 @@
--- The bytes of a line.
+-- The bytes of a line, and of lines.
 use Rattle.std.specs.Prelude.{◌≡◌, ◌↔◌, ℕ, ◌+◌, ◌<◌, List, [], ◌∷◌, ◌++◌, map, length, codes, slice_index, decimal}
 use Rattle.std.specs.Fmt.{signed_decimal}
 use Rattle.std.specs.List.{flat_map}
+use Rattle.std.specs.Vec.{vec_capacity}
 use Rattle.fields.specs.Words.{refusal_words}
 use Rattle.settlement.specs.Settling.{Answered, answered}
 use Rattle.settlement.specs.Words.{standing_word}
@@ -9,6 +10,7 @@ use Rattle.printed.specs.declared.call.Call.{Call}
 use Rattle.printed.specs.declared.call.Call.TheVariants.{Opening, Entry, Amendment}
 use Rattle.printed.specs.declared.line.Line.{Line}
 use Rattle.printed.specs.declared.line.Line.TheVariants.{Opened, Entered, Amended, Refused, NoFrame}
+use Rattle.printed.specs.declared.lines.Lines.{Lines}
 
 -- the letter of a call, accepted or refused
 abbrev pub call_letter : Call → List ℕ
@@ -56,3 +58,11 @@ longest = 512
 pub record OneLine (bytes : List ℕ) : Type 0 where
   pub some : 0 < length bytes
   pub ends : (i : ℕ) → i < length bytes → (slice_index bytes i ≡ 10 ↔ i + 1 ≡ length bytes)
+
+-- the bytes of the lines that were told, and of what they follow
+abbrev pub written : Lines → List ℕ
+written l = l.bytes.items
+
+-- how many bytes there is room for, those that stand included
+abbrev pub room : Lines → ℕ
+room l = vec_capacity l.bytes

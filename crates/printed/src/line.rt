@@ -1,5 +1,5 @@
 // A line of the printed run.
-ghost use Rattle.std.specs.Prelude.{◌≡◌, ◌+◌, ◌<◌, ◌≤◌, ◌++◌, if◌then◌else◌, length, is_ok, vec_capacity, IsOk, IfOk, OnErr, MatchResult};
+ghost use Rattle.std.specs.Prelude.{◌≡◌, ◌≤◌, IfOk, MatchResult};
 ghost use Rattle.fields.specs.Room.{Wrote, Short};
 ghost use Rattle.printed.specs.Lines.{letter, line_bytes, longest, OneLine};
 ghost use Rattle.printed.specs.Numerals.{NumbersReadBack};
@@ -8,7 +8,6 @@ use crate::call::Call;
 use crate::text::text_of;
 use book::Answer;
 use fields::{Refusal, ShortBuffer, ask_room, put};
-use std::alloc::AllocError;
 
 /// What is told of a frame, or of the offset where none begins.
 #[derive(Clone, Copy)]
@@ -39,7 +38,7 @@ impl Line {
     }
 
     /// Fills the start of the lent buffer with the line, and answers how many bytes it has; a short buffer is refused and left as it was.
-    #[tactic(auto, using(crate::proofs::Numerals::numbers_read_back, crate::proofs::Lines::one_line))]
+    #[tactic(auto, using(crate::proofs::Numerals::numbers_read_back, crate::proofs::OneLine::one_line))]
     pub fn write(&self, buffer: &mut [u8]) -> Result<usize, ShortBuffer>
         ensures cases { MatchResult result (λ n. Wrote buffer.old buffer.new n (line_bytes self.now)) (λ e. Short buffer.old buffer.new e) }
         // No line is longer, whatever it tells.
@@ -54,20 +53,5 @@ impl Line {
             unreachable()
         };
         Ok(length)
-    }
-
-    /// Appends the line. It fails only where there is no room for the line, so not where there was room for any.
-    pub(crate) fn append_to(&self, output: &mut Vec<u8>) -> Result<(), AllocError>
-        ensures appended { output.new.items ≡ (if is_ok result then output.old.items ++ line_bytes self.now else output.old.items) }
-        ensures capacity { vec_capacity output.old ≤ vec_capacity output.new }
-        ensures full { OnErr result (vec_capacity output.new < length output.new.items + length (line_bytes self.now)) }
-        ensures succeeds { length output.old.items + longest ≤ vec_capacity output.old → IsOk result }
-    {
-        let mut buffer = [0; 1024];
-        let Ok(count) = self.write(&mut buffer) else {
-            unreachable()
-        };
-        output.try_reserve(count)?;
-        output.extend_from_slice(&buffer[..count])
     }
 }

@@ -1,10 +1,11 @@
 // What came of a frame.
-ghost use Rattle.std.specs.Prelude.{◌≡◌, ◌+◌, ◌<◌, ◌≤◌, ◌++◌, Some, None, length, vec_capacity, IsOk, OnErr, MatchResult};
+ghost use Rattle.std.specs.Prelude.{◌≡◌, ◌+◌, ◌<◌, ◌≤◌, ◌++◌, Some, None, length, IsOk, OnErr, MatchResult};
 ghost use Rattle.book.specs.Duties.{month_of};
-ghost use Rattle.printed.specs.Lines.{line_bytes, longest};
+ghost use Rattle.printed.specs.Lines.{line_bytes, longest, written, room};
 ghost use Rattle.printed.specs.Runs.{line_of, duty_of};
 
 use crate::line::Line;
+use crate::lines::Lines;
 use book::{Answer, Duty};
 
 /// The line that tells it, and of an accepted entry the duty to file its month. Both are private to this module, and `tell` is the one way out: a month
@@ -31,18 +32,18 @@ impl Outcome {
         }
     }
 
-    /// Appends the line to the output, and then answers the duty. Where memory lacks, the output has what it had, and the outcome comes back.
-    pub fn tell(self, output: &mut Vec<u8>) -> Result<Option<Duty>, Outcome>
+    /// Appends the line, and then answers the duty. Where memory lacks, the lines are those that there were, and the outcome comes back.
+    pub fn tell(self, lines: &mut Lines) -> Result<Option<Duty>, Outcome>
         ensures cases { MatchResult result
-            (λ duty. (output.new.items ≡ output.old.items ++ line_bytes (line_of self)) × (duty ≡ duty_of self))
-            (λ outcome. (output.new.items ≡ output.old.items) × (outcome ≡ self)) }
-        ensures capacity { vec_capacity output.old ≤ vec_capacity output.new }
+            (λ duty. (written lines.new ≡ written lines.old ++ line_bytes (line_of self)) × (duty ≡ duty_of self))
+            (λ outcome. (written lines.new ≡ written lines.old) × (outcome ≡ self)) }
+        ensures capacity { room lines.old ≤ room lines.new }
         // It fails only where there is no room for the line, so not where there was room for any.
-        ensures full { OnErr result (vec_capacity output.new < length output.new.items + length (line_bytes (line_of self))) }
-        ensures succeeds { length output.old.items + longest ≤ vec_capacity output.old → IsOk result }
+        ensures full { OnErr result (room lines.new < length (written lines.new) + length (line_bytes (line_of self))) }
+        ensures succeeds { length (written lines.old) + longest ≤ room lines.old → IsOk result }
     {
         let Outcome { line, duty } = self;
-        match line.append_to(output) {
+        match lines.append(&line) {
             Ok(()) => Ok(duty),
             Err(_) => Err(Outcome { line, duty }),
         }

@@ -1,14 +1,15 @@
 // The whole run.
-ghost use Rattle.std.specs.Prelude.{◌≡◌, ℕ, ◌≤◌, List, ◌++◌, Option, None, IfSome, vec_capacity, MatchResult};
+ghost use Rattle.std.specs.Prelude.{◌≡◌, ℕ, ◌≤◌, List, ◌++◌, Option, None, IfSome, MatchResult};
 ghost use Rattle.book.specs.Duties.{duty_asked};
 ghost use Rattle.book.specs.Reading.{NonePending};
 ghost use Rattle.fields.specs.Questions.{first_no};
 ghost use Rattle.printed.specs.Journals.{Agrees, CarriesJournalAll, Journal, LacksRoomWith, PrintedWith, RunFacts};
+ghost use Rattle.printed.specs.Lines.{written, room};
 ghost use Rattle.printed.specs.Runs.{State, state_of, once_filed, Printed, LacksRoom};
 
 use crate::frames::Frames;
 use crate::line::Line;
-use crate::text::LONGEST;
+use crate::lines::Lines;
 use crate::working::work;
 use book::{Book, Duty};
 use schedule::FourCharges;
@@ -33,12 +34,12 @@ fn file(book: &mut Book<FourCharges>, duty: Option<Duty>)
 fn run_frames(
     book: &mut Book<FourCharges>,
     input: &[u8],
-    output: &mut Vec<u8>,
+    output: &mut Lines,
 ) -> Result<(), AllocError>
     ensures cases { MatchResult result
-        (λ _. PrintedWith CarriesJournalAll (state_of book.old) input.now output.old.items output.new.items (state_of book.new))
-        (λ _. LacksRoomWith CarriesJournalAll (state_of book.old) input.now (vec_capacity output.new) output.old.items output.new.items (state_of book.new)) }
-    ensures capacity { vec_capacity output.old ≤ vec_capacity output.new }
+        (λ _. PrintedWith CarriesJournalAll (state_of book.old) input.now (written output.old) (written output.new) (state_of book.new))
+        (λ _. LacksRoomWith CarriesJournalAll (state_of book.old) input.now (room output.new) (written output.old) (written output.new) (state_of book.new)) }
+    ensures capacity { room output.old ≤ room output.new }
     ensures none_pending { NonePending book.old.account → NonePending book.new.account }
 {
     let mut frames = Frames::new(input);
@@ -46,14 +47,14 @@ fn run_frames(
         match frames.read() {
             Ok(Some(frame)) => {
                 // Before the frame is worked, so that none is whose line then lacks room.
-                output.try_reserve(LONGEST)?;
+                output.reserve_line()?;
                 match work(book, &frame).tell(output) {
                     Ok(duty) => file(book, duty),
                     Err(_outcome) => unreachable(),
                 }
             }
             Ok(None) => return Ok(()),
-            Err(none) => return Line::NoFrame(none.at).append_to(output),
+            Err(none) => return output.append(&Line::NoFrame(none.at)),
         }
     }
 }
@@ -64,23 +65,23 @@ fn run_frames(
 pub fn write_run(
     book: &mut Book<FourCharges>,
     input: &[u8],
-    output: &mut Vec<u8>,
+    output: &mut Lines,
 ) -> Result<(), AllocError>
     ensures cases { MatchResult result
-        (λ _. Printed (state_of book.old) input.now output.old.items output.new.items (state_of book.new))
-        (λ _. LacksRoom (state_of book.old) input.now (vec_capacity output.new) output.old.items output.new.items (state_of book.new)) }
+        (λ _. Printed (state_of book.old) input.now (written output.old) (written output.new) (state_of book.new))
+        (λ _. LacksRoom (state_of book.old) input.now (room output.new) (written output.old) (written output.new) (state_of book.new)) }
     // So what lacked at the end lacked at first, and no room was given back.
-    ensures capacity { vec_capacity output.old ≤ vec_capacity output.new }
+    ensures capacity { room output.old ≤ room output.new }
     // No other output is that of a run, and no other state is left by it: the input and the book settle every byte, and what the book then holds.
     // Where memory lacks, the output is a beginning of that one.
-    ensures once { (out : List ℕ) (after : State) → Printed (state_of book.old) input.now output.old.items out after
-        → MatchResult result (λ _. (output.new.items ≡ out) × (state_of book.new ≡ after)) (λ _. (later : List ℕ) × (out ≡ output.new.items ++ later)) }
+    ensures once { (out : List ℕ) (after : State) → Printed (state_of book.old) input.now (written output.old) out after
+        → MatchResult result (λ _. (written output.new ≡ out) × (state_of book.new ≡ after)) (λ _. (later : List ℕ) × (out ≡ written output.new ++ later)) }
     // Where no month was pending before, none is afterwards, also where memory lacks.
     ensures none_pending { NonePending book.old.account → NonePending book.new.account }
     // By a journal that agreed with the book before, carried on by the frames, the facts hold of the book afterwards, also where memory lacks.
     ensures facts { (begun : Option Journal) → Agrees (state_of book.old) begun → MatchResult result
-        (λ _. PrintedWith (RunFacts begun) (state_of book.old) input.now output.old.items output.new.items (state_of book.new))
-        (λ _. LacksRoomWith (RunFacts begun) (state_of book.old) input.now (vec_capacity output.new) output.old.items output.new.items (state_of book.new)) }
+        (λ _. PrintedWith (RunFacts begun) (state_of book.old) input.now (written output.old) (written output.new) (state_of book.new))
+        (λ _. LacksRoomWith (RunFacts begun) (state_of book.old) input.now (room output.new) (written output.old) (written output.new) (state_of book.new)) }
 {
     let ran = run_frames(book, input, output);
     // Does nothing; its contract gives the facts.

@@ -1,5 +1,5 @@
 -- The book and the months of the worked cases.
-use Rattle.std.specs.Prelude.{ℕ, Bool, List, [], ◌∷◌, replicate, ℤ, pos}
+use Rattle.std.specs.Prelude.{ℕ, Bool, List, [], ◌∷◌, map, replicate, ℤ, pos}
 use Rattle.book.specs.Account.{Account, marks_of}
 use Rattle.book.specs.Amending.{answer_now, replaced}
 use Rattle.book.specs.Duties.{marked}
@@ -71,9 +71,9 @@ hundred_kwh = record {
 abbrev pub losing : ℕ → ℕ → Figures
 losing substation feeder = record hundred_kwh { energy = record { input = 100; substation = substation; feeder = feeder } }
 
--- a month that loses half of its input, and then twelve that lose a tenth
+-- a month that loses half of its input, and then twelve that lose less in the feeders than a cap of 5 percent allows
 abbrev pub thirteen_months : List Figures
-thirteen_months = losing 20 30 ∷ replicate 12 (losing 5 5)
+thirteen_months = losing 20 30 ∷ replicate 12 (losing 5 4)
 
 -- its power costs so many centavos
 abbrev pub power_at : ℕ → Figures
@@ -89,6 +89,24 @@ lifeline_at metering = record hundred_kwh {
   brackets = record { kwh = 1; customers = 1; percent = 100 } ∷ [];
   sales = record { nonlifeline = 1; rate = 1000000; metering = metering };
 }
+
+-- a month with two of whatever there can be several of, and none of its figures 0: two sources and two brackets, discounts of which a part is passed on,
+-- input that is charged no generation and input that is charged no transmission
+abbrev pub full_month : Figures
+full_month = record {
+  month = 1;
+  sources = record { cost = 20000001; taken = 300001; passed = 100000 } ∷ record { cost = 30000002; taken = 200000; passed = 50001 } ∷ [];
+  pilferage = 7003;
+  transmission = record { cost = 9000001; taken = 20001; passed = 5000 };
+  energy = record { input = 120000; substation = 2400; feeder = 4803 };
+  exempt = record { generation = 5001; transmission = 7002 };
+  brackets = record { kwh = 8001; customers = 401; percent = 24 } ∷ record { kwh = 5003; customers = 207; percent = 35 } ∷ [];
+  sales = record { nonlifeline = 90007; rate = 81001; metering = 50003 };
+}
+
+-- what each mechanism of the row is billed on, and answers, for a month standing alone
+abbrev pub billed_on_and_answered : List Meaning → Figures → List (ℕ × (ℕ × ℕ))
+billed_on_and_answered row m = map (λ k. (k.quantity m, k.assessed (m ∷ []))) row
 
 -- the base rate of month 1 standing alone, and whether the month is fit
 abbrev pub price_and_fit : Meaning → Figures → ℕ × Bool

@@ -14,6 +14,7 @@ use Rattle.charges.specs.Charges.{generation, transmission, lifeline}
 use Rattle.charges.specs.Formulas.{twelve_months, gross_up}
 use Rattle.fields.specs.Questions.{first_no, carried}
 use Rattle.fields.specs.declared.refusal.Layer.TheVariants as layer
+use Rattle.month.specs.Amounts.{generation_cost, transmission_cost, sold, discount}
 use Rattle.month.specs.Asked.{month_asked}
 use Rattle.month.specs.Figures.{Figures}
 use Rattle.month.specs.Refusals.{month_refusal}
@@ -32,7 +33,8 @@ use Rattle.settlement.specs.declared.answer.Answer.{Answer}
 use Rattle.settlement.specs.declared.band.Band.TheVariants.{Beyond, Between, Within}
 use Rattle.settlement.specs.declared.record.Mark.TheVariants.{Pending, Filed, Missed}
 use Rattle.settlement.specs.declared.standing.Standing.TheVariants.{Steady, Correcting}
-use Rattle.workedcases.specs.Sample.{charges, opening, opened, filed, first, second, owing, rates_after, four_months, thirteen_months, losing, power_at, transmission_at, lifeline_at, price_and_fit}
+use Rattle.workedcases.specs.Sample.{charges, opening, opened, filed, first, second, owing, rates_after, four_months, thirteen_months}
+use Rattle.workedcases.specs.Sample.{full_month, billed_on_and_answered, losing, power_at, transmission_at, lifeline_at, price_and_fit}
 use Rattle.workedcases.specs.Stream.{stream, lines, left}
 
 pub record WorkedCases : Type 0 where
@@ -121,7 +123,21 @@ pub record WorkedCases : Type 0 where
   pub missed_month_bars : rates_after Missed ≡ pos 49791 ∷ pos 10000 ∷ pos 4180 ∷ pos 3300 ∷ []
   -- the revenue is that of the latest three months, and U goes by the latest twelve
   pub revenue_of_the_latest_three : revenue charges 4 four_months ≡ 21872578912
-  pub gross_up_of_the_latest_twelve : gross_up 500 (twelve_months thirteen_months) ≡ 1111
+  pub gross_up_of_the_latest_twelve : gross_up 500 (twelve_months thirteen_months) ≡ 989
+  -- a month with two sources, two brackets, discounts and exempt input, which loses less in the feeders than the cap allows: the amounts, of which the
+  -- lifeline discount is rounded once, and for each charge what the month is billed on, its base rate and its allowance
+  pub full_month_accepted : first_no (carried month_refusal (month_asked full_month)) ≡ None
+  pub full_month_generation_cost : generation_cost full_month ≡ 4981800000
+  pub full_month_transmission_cost : transmission_cost full_month ≡ 899250050
+  pub full_month_sold : sold full_month ≡ 103011
+  pub full_month_discount : discount full_month ≡ 305813167
+  pub full_month_answered :
+      billed_on_and_answered charges full_month
+      ≡ (103011, (43320, 4462475324))
+      ∷ (103011, (7958, 819772446))
+      ∷ (103011, (3271, 337004236))
+      ∷ (90007, (3397, 305813167))
+      ∷ []
   -- half of the input of 100 kWh may be lost, and no more: question 10, of field 5
   pub half_lost_accepted : first_no (carried month_refusal (month_asked (losing 20 30))) ≡ None
   pub above_half_lost_refused :

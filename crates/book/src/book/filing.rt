@@ -1,7 +1,7 @@
 // Filing a month, and giving its filing up.
-ghost use Rattle.std.specs.Prelude.{◌≡◌, List, OnOk, OnErr, MatchResult};
+ghost use Rattle.std.specs.Prelude.{◌≡◌, ◌↔◌, List, OnOk, OnErr, IsOk, MatchResult};
 ghost use Rattle.settlement.specs.declared.record.Mark.TheVariants.{Filed, Missed};
-ghost use Rattle.book.specs.Duties.{is_owed, month_of, Spent, Returned};
+ghost use Rattle.book.specs.Duties.{is_owed, month_of, Owes, Spent, Returned};
 ghost use Rattle.book.specs.Opening.{OpeningNumbers};
 ghost use Rattle.book.specs.Reading.{MarkSet};
 ghost use Rattle.book.specs.Reconciled.{BookReconciled};
@@ -19,6 +19,8 @@ impl<S: Schedule> Book<S> {
     pub fn file(&mut self, duty: Duty) -> Result<(), ReturnedDuty>
         ensures schedule { self.new.schedule ≡ self.old.schedule }
         ensures cases { MatchResult result (λ _. Spent self.old.account self.new.account duty Filed) (λ e. Returned self.old.account duty e) }
+        // It is accepted exactly where the book owes the duty.
+        ensures owed { IsOk result ↔ Owes self.old.account duty }
         ensures marks { OnOk result (MarkSet self.old.account self.new.account (month_of duty) Filed) }
         ensures refused { OnErr result (self.new ≡ self.old) }
         // A book that agrees with a tally agrees with it afterwards: nothing is counted.
@@ -32,6 +34,7 @@ impl<S: Schedule> Book<S> {
     pub fn give_up(&mut self, duty: Duty) -> Result<(), ReturnedDuty>
         ensures schedule { self.new.schedule ≡ self.old.schedule }
         ensures cases { MatchResult result (λ _. Spent self.old.account self.new.account duty Missed) (λ e. Returned self.old.account duty e) }
+        ensures owed { IsOk result ↔ Owes self.old.account duty }
         ensures marks { OnOk result (MarkSet self.old.account self.new.account (month_of duty) Missed) }
         ensures refused { OnErr result (self.new ≡ self.old) }
         // A book that agrees with a tally agrees with it afterwards: nothing is counted.

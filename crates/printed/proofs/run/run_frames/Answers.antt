@@ -1,4 +1,4 @@
-use Rattle.std.proofs.Common.{List, ℕ, ap, sym, ◌∙◌, subst, arith}
+use Rattle.std.proofs.Common.{List, ℕ, length, ap, sym, ◌∙◌, subst, arith}
 use Rattle.std.proofs.lemmas.Result.{err_from_is_err_and}
 use Rattle.book.specs.Reading.{NonePending}
 use Rattle.printed.specs.Frames.{framed, NoFrameAt}
@@ -15,24 +15,24 @@ loop-frame-preserved c =
     let stands = found_frame held.stream c.in-Ok-Some.ensures.cases c.in-Ok-Some.field-0-is in
     record {
       stream = c.read.ensures.stream ∙ held.stream;
-      room = omega (arith, held.room, c.try_reserve.ensures.capacity, c.tell.ensures.capacity);
+      room = omega (arith, held.room, c.reserve_line.ensures.capacity, c.tell.ensures.capacity);
       none_pending = λ none. subst (λ (s : State). NonePending s.account) (sym filed) (worked.none_pending_once_filed (held.none_pending none));
-      so_far = rw (told.0, c.try_reserve.ensures.items, filed) (one_more held.so_far (framed c.in-Ok-Some.frame) stands _ (line_of c.work.result) worked.works_once_filed worked.journaled_once_filed);
+      so_far = rw (told.0, c.reserve_line.ensures.same, filed) (one_more held.so_far (framed c.in-Ok-Some.frame) stands _ (line_of c.work.result) worked.works_once_filed worked.journaled_once_filed);
     }
 
-pub returns-in_err-try_reserve-in-Ok-Some-clause-cases : goal.returns-in_err-try_reserve-in-Ok-Some-clause-cases
-returns-in_err-try_reserve-in-Ok-Some-clause-cases c =
+pub returns-in_err-reserve_line-in-Ok-Some-clause-cases : goal.returns-in_err-reserve_line-in-Ok-Some-clause-cases
+returns-in_err-reserve_line-in-Ok-Some-clause-cases c =
     let held = c.loop-frame.invariant in
-    let reserved = c.in_err-try_reserve-in-Ok-Some.ensures in
+    let reserved = c.in_err-reserve_line-in-Ok-Some.ensures in
     let stands = found_frame held.stream c.in-Ok-Some.ensures.cases c.in-Ok-Some.field-0-is in
     let err = err_from_is_err_and c.from_residual.result c.from_residual.ensures.1 in
-    rw (err.1, c.try_reserve.ensures.items) (no_room_for_a_line held.so_far (framed c.in-Ok-Some.frame) stands (omega (arith, reserved.full, reserved.err)))
+    rw (err.1, c.reserve_line.ensures.same) (no_room_for_a_line held.so_far (framed c.in-Ok-Some.frame) stands (omega (arith, reserved.full, ap length reserved.same)))
 
 pub returns-in-Err-clause-cases : goal.returns-in-Err-clause-cases
 returns-in-Err-clause-cases c =
     let held = c.loop-frame.invariant in
     let none = subst (λ (l : List ℕ). NoFrameAt l c.loop-frame.frames.reader.at c.read.new.self.reader.at c.in-Err.none) held.stream c.in-Err.ensures.cases in
-    end_of_run held.so_far c.in-Err.none none _ c.append_to.result c.append_to.ensures.appended c.append_to.ensures.full
+    end_of_run held.so_far c.in-Err.none none _ c.append.result c.append.ensures.appended c.append.ensures.full
 
 pub returns-in-Ok-None-clause-cases : goal.returns-in-Ok-None-clause-cases
 returns-in-Ok-None-clause-cases c =

@@ -1,4 +1,5 @@
 use Rattle.book.proofs.Marks.{duty_marks, duty_reconciled}
+use Rattle.book.proofs.Pending.{spent_where_owed}
 use Rattle.book.proofs.book.Book.give_up.Goals as goal
 
 pub returns-clause-reconciled : goal.returns-clause-reconciled
@@ -7,3 +8,6 @@ returns-clause-reconciled g c o ps =
 
 pub returns-clause-marks : goal.returns-clause-marks
 returns-clause-marks g c = duty_marks c.spend.result _ _ _ _ c.spend.ensures.cases
+
+pub returns-clause-owed : goal.returns-clause-owed
+returns-clause-owed g c = spent_where_owed c.spend.result _ _ _ _ c.spend.ensures.cases

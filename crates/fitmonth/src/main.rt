@@ -1,4 +1,4 @@
-// The program `monthcheck` under another name, to be run on a month that is not fit, with a cap of its own, since the gate runs a program on one input.
+// The program `monthcheck` under another name, to be run on a month that is fit, with no argument, since the gate runs a program on one input.
 #![tactic(auto)]
 
 use monthpage::{cap_of, print_page};
