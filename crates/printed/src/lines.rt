@@ -13,7 +13,7 @@ pub struct Lines {
 }
 
 impl Lines {
-    /// These bytes, and no line yet.
+    /// These bytes, and no line yet; the room is what they have.
     pub fn behind(before: Vec<u8>) -> Lines
         ensures bytes { written result ≡ before.items }
         ensures room { room result ≡ vec_capacity before }
@@ -21,12 +21,14 @@ impl Lines {
         Lines { bytes: before }
     }
 
+    /// All that stands, what the lines follow included.
     pub fn as_slice(&self) -> &[u8]
         ensures { result.now ≡ written self.now }
     {
         self.bytes.as_slice()
     }
 
+    /// The same, once no more lines are told.
     pub fn into_bytes(self) -> Vec<u8>
         ensures { result.items ≡ written self }
     {
