@@ -1,5 +1,6 @@
 -- What a month that is added keeps.
-use Rattle.std.proofs.Common.{◌≡◌, ℕ, suc, ◌+◌, ◌<◌, true, List, [], ◌∷◌, ◌++◌, map, length, Option, Some, None, sym, refl, ap, ◌∙◌, subst, nat_eq, eq-eqb, arith}
+use Rattle.std.proofs.Common.{◌≡◌, ℕ, suc, ◌+◌, ◌<◌, true, List, [], ◌∷◌, ◌++◌, map, length, Option, Some, None, sym, refl, ap, ◌∙◌, subst}
+use Rattle.std.proofs.Common.{nat_eq, eq-eqb, arith}
 use Rattle.std.proofs.lemmas.List.{length-map, length_push, map_push}
 use Rattle.std.proofs.lemmas.List.Elements.{All-push}
 use Rattle.bounded.specs.declared.up_to.UpTo.{UpTo}
@@ -29,12 +30,14 @@ use Rattle.book.proofs.Admits.{Admits, admits, next_month}
 use Rattle.book.proofs.OfMonth.{of_month_added}
 
 module _ (row : List Meaning) (months : List Month) (m : Month) where
-  pub all_fit_added : AllFit row (map figures months) → ((i : ℕ) → i < length row → (numbered row i).fit (figures m) ≡ true) → AllFit row (map figures months ++ figures m ∷ [])
+  pub all_fit_added : AllFit row (map figures months) → ((i : ℕ) → i < length row → (numbered row i).fit (figures m) ≡ true)
+      → AllFit row (map figures months ++ figures m ∷ [])
   all_fit_added fit fits i inside =
       All-push (λ f. Valid f × ((numbered row i).fit f ≡ true)) (map figures months) (figures m) (fit i inside) (month_valid m, fits i inside)
 
   -- the months of a book with the one that is taken
-  pub months_added : BookMonths row (map figures months) → Admits Entry row (length months) (figures m) → BookMonths row (map figures months ++ figures m ∷ [])
+  pub months_added : BookMonths row (map figures months) → Admits Entry row (length months) (figures m)
+      → BookMonths row (map figures months ++ figures m ∷ [])
   months_added before admitted =
       let ms = map figures months in
       let more : length (ms ++ figures m ∷ []) ≡ suc (length ms) = omega (arith, length_push ms (figures m)) in
@@ -46,7 +49,9 @@ module _ (row : List Meaning) (months : List Month) (m : Month) where
       }
 
   -- a sound book that is open is sound with one month more
-  sound_added : (o next : Opened) (billed : List (UpTo Rate 8)) (records : List Record) (rates : UpTo Rate 8) (r : Record) → next.terms ≡ o.terms → Sound row (Some o) months billed records → Admits Entry row (length months) (figures m) → Sound row (Some next) (months ++ m ∷ []) (billed ++ rates ∷ []) (records ++ r ∷ [])
+  sound_added : (o next : Opened) (billed : List (UpTo Rate 8)) (records : List Record) (rates : UpTo Rate 8) (r : Record)
+      → next.terms ≡ o.terms → Sound row (Some o) months billed records → Admits Entry row (length months) (figures m)
+      → Sound row (Some next) (months ++ m ∷ []) (billed ++ rates ∷ []) (records ++ r ∷ [])
   sound_added o next billed records rates r terms sound admitted =
       let limit = (month_valid m).within.month_most in
       let follows = next_month (figures m).month (length months) admitted.placed in
@@ -61,14 +66,20 @@ module _ (row : List Meaning) (months : List Month) (m : Month) where
         suits = sound.suits ∙ ap (λ (t : Terms). length (opening_units t.balances)) (sym terms);
       }
 
-  pub sound_with_month : {opened : Option Opened} (o next : Opened) (billed : List (UpTo Rate 8)) (records : List Record) (rates : UpTo Rate 8) (r : Record) → opened ≡ Some o → next.terms ≡ o.terms → Sound row opened months billed records → first_no (posting_asked Entry row (held_by opened months billed records) (figures m)) ≡ None → Sound row (Some next) (months ++ m ∷ []) (billed ++ rates ∷ []) (records ++ r ∷ [])
+  pub sound_with_month : {opened : Option Opened} (o next : Opened) (billed : List (UpTo Rate 8)) (records : List Record) (rates : UpTo Rate 8) (r : Record)
+      → opened ≡ Some o → next.terms ≡ o.terms → Sound row opened months billed records
+      → first_no (posting_asked Entry row (held_by opened months billed records) (figures m)) ≡ None
+      → Sound row (Some next) (months ++ m ∷ []) (billed ++ rates ∷ []) (records ++ r ∷ [])
   sound_with_month o next billed records rates r is terms sound clear =
       let sound_open = subst (λ (x : Option Opened). Sound row x months billed records) is sound in
       let clear_open = subst (λ (x : Option Opened). first_no (posting_asked Entry row (held_by x months billed records) (figures m)) ≡ None) is clear in
       sound_added o next billed records rates r terms sound_open (admits Entry row o months billed records (figures m) clear_open)
 
   -- there is room for the month, its rates and its record
-  pub room_for_month : {opened : Option Opened} (o : Opened) (billed : List (UpTo Rate 8)) (records : List Record) → opened ≡ Some o → Sound row opened months billed records → first_no (posting_asked Entry row (held_by opened months billed records) (figures m)) ≡ None → (length months < 36) × (length billed < 36) × (length records < 36)
+  pub room_for_month : {opened : Option Opened} (o : Opened) (billed : List (UpTo Rate 8)) (records : List Record) → opened ≡ Some o
+      → Sound row opened months billed records
+      → first_no (posting_asked Entry row (held_by opened months billed records) (figures m)) ≡ None
+      → (length months < 36) × (length billed < 36) × (length records < 36)
   room_for_month o billed records is sound clear =
       let clear_open = subst (λ (x : Option Opened). first_no (posting_asked Entry row (held_by x months billed records) (figures m)) ≡ None) is clear in
       let known = admits Entry row o months billed records (figures m) clear_open in
@@ -77,7 +88,11 @@ module _ (row : List Meaning) (months : List Month) (m : Month) where
       (omega (arith, limit, follows), omega (arith, limit, follows, sound.all_billed), omega (arith, limit, follows, sound.all_recorded))
 
   -- filing would not refuse the duty of the month that was added
-  pub owed_with_month : {opened : Option Opened} (o next : Opened) (billed billed_after : List (UpTo Rate 8)) (records records_after : List Record) (months_after : List Month) (r : Record) (duty : Duty) → opened ≡ Some o → next.number ≡ o.number → Sound row opened months billed records → first_no (posting_asked Entry row (held_by opened months billed records) (figures m)) ≡ None → records_after ≡ records ++ r ∷ [] → r.mark ≡ Pending → duty.book ≡ o.number → duty.month ≡ (figures m).month → first_no (duty_asked (held_by (Some next) months_after billed_after records_after) duty) ≡ None
+  pub owed_with_month : {opened : Option Opened} (o next : Opened) (billed billed_after : List (UpTo Rate 8)) (records records_after : List Record) (months_after : List Month) (r : Record) (duty : Duty)
+      → opened ≡ Some o → next.number ≡ o.number → Sound row opened months billed records
+      → first_no (posting_asked Entry row (held_by opened months billed records) (figures m)) ≡ None → records_after ≡ records ++ r ∷ []
+      → r.mark ≡ Pending → duty.book ≡ o.number → duty.month ≡ (figures m).month
+      → first_no (duty_asked (held_by (Some next) months_after billed_after records_after) duty) ≡ None
   owed_with_month o next billed billed_after records records_after months_after r duty is number sound clear records_is pending book month =
       let clear_open = subst (λ (x : Option Opened). first_no (posting_asked Entry row (held_by x months billed records) (figures m)) ≡ None) is clear in
       let known = admits Entry row o months billed records (figures m) clear_open in

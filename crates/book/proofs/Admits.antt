@@ -33,7 +33,9 @@ yes_numbered asked (suc n) i inside y =
     grind (arith, common_steps, yes_numbered asked n i)
 
 -- what is asked of a book is asked of what it holds
-pub asked_inside : (kind : PostingKind) {S : Type 0} (meaning : S → List Meaning) (held now : BookState S) (m : Figures) → held ≡ now → first_no (posting_asked kind (meaning now.schedule) now.account m) ≡ None → first_no (posting_asked kind (meaning held.schedule) held.account m) ≡ None
+pub asked_inside : (kind : PostingKind) {S : Type 0} (meaning : S → List Meaning) (held now : BookState S) (m : Figures) → held ≡ now
+    → first_no (posting_asked kind (meaning now.schedule) now.account m) ≡ None
+    → first_no (posting_asked kind (meaning held.schedule) held.account m) ≡ None
 asked_inside kind meaning held now m is clear = subst (λ b. first_no (posting_asked kind (meaning b.schedule) b.account m) ≡ None) (sym is) clear
 
 pub record Admits (kind : PostingKind) (row : List Meaning) (standing : ℕ) (m : Figures) : Type 0 where
@@ -44,7 +46,8 @@ pub record Admits (kind : PostingKind) (row : List Meaning) (standing : ℕ) (m 
 pub fit_for_each : (row : List Meaning) (m : Figures) → Yes (fit_asked row (length row) m) → FitForEach row m
 fit_for_each row m all i inside = yes_numbered (λ n. ((numbered row n).fit m, NotFit n)) (length row) i inside all
 
-pub admits : (kind : PostingKind) (row : List Meaning) (o : Opened) (months : List Month) (billed : List (UpTo Rate 8)) (records : List Record) (m : Figures) → first_no (posting_asked kind row (held_by (Some o) months billed records) m) ≡ None → Admits kind row (length months) m
+pub admits : (kind : PostingKind) (row : List Meaning) (o : Opened) (months : List Month) (billed : List (UpTo Rate 8)) (records : List Record) (m : Figures)
+    → first_no (posting_asked kind row (held_by (Some o) months billed records) m) ≡ None → Admits kind row (length months) m
 admits kind row o months billed records m clear =
     let yes = all_yes (posting_asked kind row (held_by (Some o) months billed records) m) clear in
     record {

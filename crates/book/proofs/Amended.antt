@@ -1,5 +1,6 @@
 -- What amending a month makes of a book. One that agrees with a tally agrees with it afterwards, with the amendment counted.
-use Rattle.std.proofs.Common.{◌≡◌, ℕ, ◌+◌, ◌-◌, ◌≤◌, true, List, [], ◌∷◌, ◌++◌, map, length, take, Option, Some, None, refl, ap, sym, ◌∙◌, subst, arith}
+use Rattle.std.proofs.Common.{◌≡◌, ℕ, ◌+◌, ◌-◌, ◌≤◌, true, List, [], ◌∷◌, ◌++◌, map, length, take, Option, Some, None, refl, ap, sym, ◌∙◌}
+use Rattle.std.proofs.Common.{subst, arith}
 use Rattle.std.proofs.lemmas.List.{length-map, length_push, same_from_push}
 use Rattle.charges.specs.Meaning.{Meaning}
 use Rattle.fields.specs.Questions.{first_no}
@@ -16,7 +17,8 @@ use Rattle.settlement.specs.Corrections.{not_filed, is_barred}
 use Rattle.settlement.specs.declared.record.Closing.{Closing}
 use Rattle.settlement.specs.declared.record.Record.{Record}
 use Rattle.book.specs.Account.{Account, marks_of, marks_told, closings_of}
-use Rattle.book.specs.Amending.{replaced, record_before_last, answer_now, settled_now, SomeMonth, Replaces, SettlesNow, Amended, AmendmentKeeps, AmendmentKeepsBook, closed_by}
+use Rattle.book.specs.Amending.{replaced, record_before_last, answer_now, settled_now, SomeMonth, Replaces, SettlesNow, Amended}
+use Rattle.book.specs.Amending.{AmendmentKeeps, AmendmentKeepsBook, closed_by}
 use Rattle.book.specs.Opening.{OpeningNumbers}
 use Rattle.book.specs.Places.{of_month, changed_at, changed_month}
 use Rattle.book.specs.Postings.{has_place, posting_asked, FitForEach}
@@ -30,7 +32,8 @@ use Rattle.book.proofs.Posted.{AcceptsPosting, posting_reconciled}
 use Rattle.book.proofs.Standings.{StandingsLeft, left_before_last, left_with_last, bar_by_marks}
 
 -- of the closing figures it changes the last
-closings_carried : (answer : Answered) (rs : List Record) → map (λ (r : Record). r.closing) (changed_month (closed_by answer) (length rs) rs) ≡ changed_month (λ (c : Closing). answer.closing) (length (map (λ (r : Record). r.closing) rs)) (map (λ (r : Record). r.closing) rs)
+closings_carried : (answer : Answered) (rs : List Record)
+    → map (λ (r : Record). r.closing) (changed_month (closed_by answer) (length rs) rs) ≡ changed_month (λ (c : Closing). answer.closing) (length (map (λ (r : Record). r.closing) rs)) (map (λ (r : Record). r.closing) rs)
 closings_carried answer [] = refl
 closings_carried answer (r ∷ rs) =
     let closing = λ (x : Record). x.closing in
@@ -66,12 +69,14 @@ module _ (answer : Answered) (rs before : List Record) (x : Record) (split : rs 
       let place : length rs - 1 ≡ length before = omega (arith, ap length split, length_push before x) in
       (λ i. of_month (split i) (place i)) ∙ of_month_before before (x ∷ []) (length before) (omega arith)
 
-  standings_carried : StandingsLeft rs → answer.standing ≡ standing_after (left_by (of_month rs (length rs - 1))) answer.closing → StandingsLeft (changed_month (closed_by answer) (length rs) rs)
+  standings_carried : StandingsLeft rs → answer.standing ≡ standing_after (left_by (of_month rs (length rs - 1))) answer.closing
+      → StandingsLeft (changed_month (closed_by answer) (length rs) rs)
   standings_carried left judged =
       let stood = left_before_last before x (subst StandingsLeft split left) in
       subst StandingsLeft (sym records_carried) (left_with_last before (closed_by answer x) stood (judged ∙ ap (λ b. standing_after (left_by b) answer.closing) month_before_last))
 
-  last_carried : (earlier : List Record) (last : Record) → changed_month (closed_by answer) (length rs) rs ≡ earlier ++ last ∷ [] → last.closing ≡ answer.closing
+  last_carried : (earlier : List Record) (last : Record) → changed_month (closed_by answer) (length rs) rs ≡ earlier ++ last ∷ []
+      → last.closing ≡ answer.closing
   last_carried earlier last e = ap (λ (r : Record). r.closing) (sym (same_from_push before earlier (closed_by answer x) last (sym records_carried ∙ e)).1)
 
 module _ (row : List Meaning) (o : OpeningNumbers) (ps : List Posting) (a : Account) (m : Figures) (file : List ℕ) (r : Reconciled row o ps a) (placed : has_place Amendment m.month (length a.months) ≡ true) where
@@ -133,7 +138,8 @@ module _ (row : List Meaning) (o : OpeningNumbers) (ps : List Posting) (a : Acco
   amendment_reconciled valid fit is = posting_reconciled row o ps a r amended (settled_now row (replaced m a)) (accepts_amendment valid fit is)
 
 -- a month stands where one was replaced
-pub some_replaced : (row : List Meaning) (before after : Option Account) (m : Figures) → first_no (posting_asked Amendment row before m) ≡ None → Replaces before after m → SomeMonth after
+pub some_replaced : (row : List Meaning) (before after : Option Account) (m : Figures)
+    → first_no (posting_asked Amendment row before m) ≡ None → Replaces before after m → SomeMonth after
 some_replaced row None after m clear replaces = absurd replaces
 some_replaced row (Some a) after m clear replaces =
     let stands = standing_month m.month (length a.months) (all_yes (posting_asked Amendment row (Some a) m) clear).0 in
@@ -141,7 +147,9 @@ some_replaced row (Some a) after m clear replaces =
     subst SomeMonth (sym replaces) some
 
 -- a book that has the figures of an accepted file and was then settled has a month amended
-pub amends : (row : List Meaning) (file : List ℕ) (read : Month) (before between after : Option Account) (answer : Answered) (month : ℕ) → Accepted file read → first_no (posting_asked Amendment row before (figures read)) ≡ None → Replaces before between (figures read) → SettlesNow row between after answer → month ≡ (figures read).month → Amended row before after file answer month
+pub amends : (row : List Meaning) (file : List ℕ) (read : Month) (before between after : Option Account) (answer : Answered) (month : ℕ)
+    → Accepted file read → first_no (posting_asked Amendment row before (figures read)) ≡ None → Replaces before between (figures read)
+    → SettlesNow row between after answer → month ≡ (figures read).month → Amended row before after file answer month
 amends row file read None between after answer month accepted clear replaces settles is = absurd replaces
 amends row file read (Some a) between after answer month accepted clear replaces settles is =
     let now = subst (λ x. SettlesNow row x after answer) replaces settles in
@@ -162,7 +170,8 @@ module _ (row : List Meaning) (before after : Option Account) (file : List ℕ) 
   amended_keeps = rw (s.open_before, s.book, s.month_is) (keeps row s.account s.stated)
 
   -- the book of which a month was amended agrees with the tally that counts the file
-  pub amended_reconciled : (o : OpeningNumbers) (ps more : List Posting) → BookReconciled row o ps before → Posts Amendment file (marks_told before) answer ps more → BookReconciled row o more after
+  pub amended_reconciled : (o : OpeningNumbers) (ps more : List Posting) → BookReconciled row o ps before
+      → Posts Amendment file (marks_told before) answer ps more → BookReconciled row o more after
   amended_reconciled o ps more r posts =
       let held = subst (BookReconciled row o ps) s.open_before r in
       let clear = subst (λ x. first_no (posting_asked Amendment row x s.stated) ≡ None) s.open_before s.asked in

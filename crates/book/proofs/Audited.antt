@@ -1,5 +1,6 @@
 -- The facts of a book that agrees with the tally of its postings.
-use Rattle.std.proofs.Common.{◌≡◌, ℕ, suc, ◌<◌, List, [], ◌∷◌, ◌++◌, map, length, All, Option, Some, None, ap, sym, ◌∙◌, subst, ℤ, pos, slice_get, slice_index_or, arith}
+use Rattle.std.proofs.Common.{◌≡◌, ℕ, suc, ◌<◌, List, [], ◌∷◌, ◌++◌, map, length, All, Option, Some, None, ap, sym, ◌∙◌, subst, ℤ, pos}
+use Rattle.std.proofs.Common.{slice_get, slice_index_or, arith}
 use Rattle.std.specs.Option.{option_map, option_and_then}
 use Rattle.std.proofs.lemmas.Int.{ints}
 use Rattle.std.proofs.lemmas.List.{length-map, take_all}
@@ -47,7 +48,8 @@ module _ (row : List Meaning) (o : OpeningNumbers) (ps : List Posting) (a : Acco
   as_many : length a.balances ≡ length row
   as_many = ap length r.balances ∙ r.mechanisms.1
 
-  tells : (i : ℕ) → i < length row → option_map (λ opening. outstanding (numbered row i) i opening a.months a.billed) (slice_get a.balances i) ≡ Some (outstanding_by_tally i)
+  tells : (i : ℕ) → i < length row
+      → option_map (λ opening. outstanding (numbered row i) i opening a.months a.billed) (slice_get a.balances i) ≡ Some (outstanding_by_tally i)
   tells i inside =
       ap (option_map (λ opening. outstanding (numbered row i) i opening a.months a.billed)) (slice_get-get_or a.balances i (pos 0) (omega (arith, as_many)))
       ∙ (λ j. Some (outstanding (numbered row i) i (slice_index_or (r.balances j) i (pos 0)) (r.counted j).months (r.counted j).billed))
@@ -103,7 +105,8 @@ module _ (row : List Meaning) (o : OpeningNumbers) (ps : List Posting) (a : Acco
     closing_revenue = λ before c is. ap (λ x. x.revenue) (last_closing before c is) ∙ ap (λ n. revenue row n a.months) as_many ∙ ap (λ t. revenue row (length row) t.months) r.counted;
   }
 
-  pub facts : map (λ m. m.month) a.months ≡ by_number suc (length a.months) → ((i : ℕ) → i < length row → AllLawful (numbered row i) a.months) → Facts row o ps (read_of row (Some a))
+  pub facts : map (λ m. m.month) a.months ≡ by_number suc (length a.months)
+      → ((i : ℕ) → i < length row → AllLawful (numbered row i) a.months) → Facts row o ps (read_of row (Some a))
   facts in_order lawful = record {
     outstanding = outstanding_by_tally;
     balances = λ i inside. let due = balanced i in omega (arith, ints, due);
@@ -116,7 +119,9 @@ module _ (row : List Meaning) (o : OpeningNumbers) (ps : List Posting) (a : Acco
   }
 
 -- a book that keeps what every book keeps, over lawful mechanisms
-pub book_facts : (row : List Meaning) (opened : Option Opened) (months : List Month) (billed : List (UpTo Rate 8)) (records : List Record) → All Lawful row → Sound row opened months billed records → (o : OpeningNumbers) (ps : List Posting) → BookReconciled row o ps (held_by opened months billed records) → Facts row o ps (read_of row (held_by opened months billed records))
+pub book_facts : (row : List Meaning) (opened : Option Opened) (months : List Month) (billed : List (UpTo Rate 8)) (records : List Record)
+    → All Lawful row → Sound row opened months billed records → (o : OpeningNumbers) (ps : List Posting)
+    → BookReconciled row o ps (held_by opened months billed records) → Facts row o ps (read_of row (held_by opened months billed records))
 book_facts row None months billed records laws sound o ps r = absurd r
 book_facts row (Some x) months billed records laws sound o ps r =
     let stand = months_of row (Some x) months billed records sound in

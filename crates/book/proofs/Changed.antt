@@ -72,7 +72,8 @@ module _ {X : Type 0} (f : X → X) where
   length_changed (suc n) xs = length_changed_at xs n
 
 -- what is read of each element, where g is done to what is read of the changed one
-pub map_changed_at : {X Y : Type 0} (f : X → X) (g : Y → Y) (read : X → Y) → ((x : X) → read (f x) ≡ g (read x)) → (xs : List X) (n : ℕ) → map read (changed_at f n xs) ≡ changed_at g n (map read xs)
+pub map_changed_at : {X Y : Type 0} (f : X → X) (g : Y → Y) (read : X → Y) → ((x : X) → read (f x) ≡ g (read x)) → (xs : List X) (n : ℕ)
+    → map read (changed_at f n xs) ≡ changed_at g n (map read xs)
 map_changed_at f g read reads [] n = refl
 map_changed_at f g read reads (x ∷ xs) zero = ap (λ y. y ∷ map read xs) (reads x)
 map_changed_at f g read reads (x ∷ xs) (suc n) = ap (λ ys. read x ∷ ys) (map_changed_at f g read reads xs n)

@@ -1,5 +1,6 @@
 -- Where the rates of the rules are announced, for the months as they stand, each keeps the laws of a correction.
-use Rattle.std.proofs.Common.{◌≡◌, ℕ, ◌+◌, ◌-◌, ◌<◌, ◌≤◌, List, [], ◌∷◌, ◌++◌, map, length, set, refl, ap, sym, ◌∙◌, subst, ℤ, pos, Option, Some, None, slice_get, slice_index_or, arith}
+use Rattle.std.proofs.Common.{◌≡◌, ℕ, ◌+◌, ◌-◌, ◌<◌, ◌≤◌, List, [], ◌∷◌, ◌++◌, map, length, set, refl, ap, sym, ◌∙◌, subst, ℤ, pos, Option}
+use Rattle.std.proofs.Common.{Some, None, slice_get, slice_index_or, arith}
 use Rattle.std.specs.List.{All}
 use Rattle.std.specs.Option.{option_map}
 use Rattle.std.proofs.lemmas.List.{length_push, length-map, length-set}
@@ -110,13 +111,15 @@ module _ (row : List Meaning) (a : Account) (law : Announcement → Type 0) (by_
   each_announced i inside = (announcement i, announces i inside, by_rules (announcement i) (some_unit i inside) (by_rule i))
 
 module _ (law : Announcement → Type 0) (by_rules : ByRules law) (row : List Meaning) where
-  pub entry_announces : (before after : Option Account) (m : Figures) (answer : Answered) (duty : Duty) → AnswersTo row before m answer → Adds before after m answer duty → BookCorrectable row after → EachAnnounced law row after
+  pub entry_announces : (before after : Option Account) (m : Figures) (answer : Answered) (duty : Duty) → AnswersTo row before m answer
+      → Adds before after m answer duty → BookCorrectable row after → EachAnnounced law row after
   entry_announces None after m answer duty answers adds known = absurd adds
   entry_announces (Some a) after m answer duty answers adds known =
       let book : after ≡ Some (with_month row a m) = adds.0 ∙ ap (λ x. Some (added a m x)) answers in
       rw book (each_announced row (with_month row a m) law by_rules (rates_with_month row a m) (subst (BookCorrectable row) book known))
 
-  pub amendment_announces : (between after : Option Account) (answer : Answered) → SettlesNow row between after answer → BookCorrectable row after → EachAnnounced law row after
+  pub amendment_announces : (between after : Option Account) (answer : Answered) → SettlesNow row between after answer
+      → BookCorrectable row after → EachAnnounced law row after
   amendment_announces None after answer settles known = absurd settles
   amendment_announces (Some a) after answer settles known =
       let book = settles.1 in
@@ -125,7 +128,8 @@ module _ (law : Announcement → Type 0) (by_rules : ByRules law) (row : List Me
       rw book (each_announced row (settled_now row a) law by_rules (rates_settled row a some) now)
 
 -- a sound book with a month
-pub correctable : (row : List Meaning) (o : Opened) (months : List Month) (billed : List (UpTo Rate 8)) (records : List Record) → All Lawful row → Sound row (Some o) months billed records → 1 ≤ length months → Correctable row (account_of o months billed records)
+pub correctable : (row : List Meaning) (o : Opened) (months : List Month) (billed : List (UpTo Rate 8)) (records : List Record)
+    → All Lawful row → Sound row (Some o) months billed records → 1 ≤ length months → Correctable row (account_of o months billed records)
 correctable row o months billed records laws sound some =
     let long : length (map figures months) ≡ length months = length-map months figures in
     record {

@@ -40,7 +40,8 @@ due_later c cs due = record {
 }
 
 -- months that leave a correction: it is due, or stood before and none ended it
-due_or_stood : (standing : Standing) (cs : List Closing) → leaves standing cs ≡ Correcting → CorrectionDue cs ⊎ ((standing ≡ Correcting) × NoneWithin cs)
+due_or_stood : (standing : Standing) (cs : List Closing) → leaves standing cs ≡ Correcting
+    → CorrectionDue cs ⊎ ((standing ≡ Correcting) × NoneWithin cs)
 due_or_stood standing [] left = inr (left, All-nil (λ c. ClosedWithin c → ⊥))
 due_or_stood standing (c ∷ cs) left = elim (due_or_stood (standing_after standing c) cs left) [
   | inl due ↦ inl (due_later c cs due)
@@ -67,7 +68,8 @@ stands standing (c ∷ cs) corrects none =
       ]
     ]
 
-begins : (standing : Standing) (before : List Closing) (c : Closing) (later : List Closing) → ClosedBeyond c → NoneWithin later → leaves standing (before ++ c ∷ later) ≡ Correcting
+begins : (standing : Standing) (before : List Closing) (c : Closing) (later : List Closing) → ClosedBeyond c → NoneWithin later
+    → leaves standing (before ++ c ∷ later) ≡ Correcting
 begins standing [] c later beyond none = stands (standing_after standing c) later (beyond_corrects standing c beyond) none
 begins standing (b ∷ before) c later beyond none = begins (standing_after standing b) before c later beyond none
 

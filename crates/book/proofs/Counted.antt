@@ -61,7 +61,8 @@ module _ (row : List Meaning) (o : OpeningNumbers) (ps : List Posting) (a : Acco
     answer = λ i. settled row (r.spread i) (r.balances i) (a.months ++ m ∷ []) (a.billed ++ a.announced ∷ []) (left_by_tally i) (barred_by_marks i);
   }
 
-  accepts_entry : Valid m → FitForEach row m → file ≡ file_of m → has_place Entry m.month (length a.months) ≡ true → AcceptsPosting row o a entered (with_month row a m)
+  accepts_entry : Valid m → FitForEach row m → file ≡ file_of m → has_place Entry m.month (length a.months) ≡ true
+      → AcceptsPosting row o a entered (with_month row a m)
   accepts_entry valid fit is next = record {
     spread = refl;
     balances = refl;
@@ -73,11 +74,15 @@ module _ (row : List Meaning) (o : OpeningNumbers) (ps : List Posting) (a : Acco
     by_rule = ruled valid fit next;
   }
 
-  pub entry_reconciled : Valid m → FitForEach row m → file ≡ file_of m → has_place Entry m.month (length a.months) ≡ true → Reconciled row o (ps ++ entered ∷ []) (with_month row a m)
+  pub entry_reconciled : Valid m → FitForEach row m → file ≡ file_of m → has_place Entry m.month (length a.months) ≡ true
+      → Reconciled row o (ps ++ entered ∷ []) (with_month row a m)
   entry_reconciled valid fit is next = posting_reconciled row o ps a r entered (with_month row a m) (accepts_entry valid fit is next)
 
 -- the book that accepted a file agrees with the tally that counts it
-pub accepted_reconciled : (row : List Meaning) (file : List ℕ) (read : Month) (before after : Option Account) (answer : Answered) (duty : Duty) → Accepted file read → first_no (posting_asked Entry row before (figures read)) ≡ None → AnswersTo row before (figures read) answer → Adds before after (figures read) answer duty → (o : OpeningNumbers) (ps more : List Posting) → BookReconciled row o ps before → Posts Entry file (marks_told before) answer ps more → BookReconciled row o more after
+pub accepted_reconciled : (row : List Meaning) (file : List ℕ) (read : Month) (before after : Option Account) (answer : Answered) (duty : Duty)
+    → Accepted file read → first_no (posting_asked Entry row before (figures read)) ≡ None → AnswersTo row before (figures read) answer
+    → Adds before after (figures read) answer duty → (o : OpeningNumbers) (ps more : List Posting) → BookReconciled row o ps before
+    → Posts Entry file (marks_told before) answer ps more → BookReconciled row o more after
 accepted_reconciled row file read None after answer duty accepted clear answers adds o ps more r posts = absurd answers
 accepted_reconciled row file read (Some a) after answer duty accepted clear answers adds o ps more r posts =
     let same : figures read ≡ posts.stated = file_same (figures read) posts.stated (sym accepted.is ∙ posts.states) in

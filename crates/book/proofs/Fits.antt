@@ -34,7 +34,8 @@ pub record BookMonths (row : List Meaning) (ms : List Figures) : Type 0 where
   pub fit : AllFit row ms
 
 -- they are those of a sound book
-pub months_of : (row : List Meaning) (opened : Option Opened) (months : List Month) (billed : List (UpTo Rate 8)) (records : List Record) → Sound row opened months billed records → BookMonths row (map figures months)
+pub months_of : (row : List Meaning) (opened : Option Opened) (months : List Month) (billed : List (UpTo Rate 8)) (records : List Record)
+    → Sound row opened months billed records → BookMonths row (map figures months)
 months_of row opened months billed records sound =
     let long : length (map figures months) ≡ length months = length-map months figures in
     record {

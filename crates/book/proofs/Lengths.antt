@@ -43,7 +43,8 @@ pub record Rated (n : ℕ) (t : Tally) : Type 0 where
   pub announced : length t.announced ≡ n
 
 module _ (n : ℕ) where
-  counted_rated : (kind : PostingKind) (m : Figures) (answer : Answered) (t : Tally) → length answer.rates ≡ n → Rated n t → Rated n (counted kind m answer t)
+  counted_rated : (kind : PostingKind) (m : Figures) (answer : Answered) (t : Tally) → length answer.rates ≡ n → Rated n t
+      → Rated n (counted kind m answer t)
   counted_rated Entry m answer t long rated =
       record { billed = All-push (λ (rates : List ℤ). length rates ≡ n) t.billed t.announced rated.billed rated.announced; announced = long }
   counted_rated Amendment m answer t long rated = record { billed = rated.billed; announced = long }
@@ -54,7 +55,8 @@ module _ (n : ℕ) where
       postings_rated ps (posted t p) (All-tail (λ q. length q.answer.rates ≡ n) p ps each) (counted_rated p.kind p.stated p.answer t (All-head (λ q. length q.answer.rates ≡ n) p ps each) rated)
 
 -- the last of the elements is put
-last_changed : {X : Type 0} (x : X) (n : ℕ) (xs : List X) → length xs ≡ suc n → changed_month (λ _. x) (length xs) xs ≡ take n (changed_month (λ _. x) (length xs) xs) ++ x ∷ []
+last_changed : {X : Type 0} (x : X) (n : ℕ) (xs : List X) → length xs ≡ suc n
+    → changed_month (λ _. x) (length xs) xs ≡ take n (changed_month (λ _. x) (length xs) xs) ++ x ∷ []
 last_changed x n [] long = absurd (omega arith)
 last_changed x zero (y ∷ []) long = refl
 last_changed x zero (y ∷ _ ∷ _) long = absurd (omega arith)
@@ -62,7 +64,8 @@ last_changed x (suc n) (y ∷ []) long = absurd (omega arith)
 last_changed x (suc n) (y ∷ z ∷ zs) long = ap (λ ys. y ∷ ys) (last_changed x n (z ∷ zs) (omega arith))
 
 -- a posting that has its place leaves some month
-pub some_month : (kind : PostingKind) (m : Figures) (answer : Answered) (t : Tally) → has_place kind m.month (length t.months) ≡ true → 1 ≤ length (counted kind m answer t).months
+pub some_month : (kind : PostingKind) (m : Figures) (answer : Answered) (t : Tally) → has_place kind m.month (length t.months) ≡ true
+    → 1 ≤ length (counted kind m answer t).months
 some_month Entry m answer t placed = omega (arith, length_push t.months m)
 some_month Amendment m answer t placed =
     omega (arith, length_changed (λ _. m) m.month t.months, place_within m.month (length t.months) placed)
@@ -71,7 +74,9 @@ some_month Amendment m answer t placed =
     place_within month n placed = grind (arith, nat_tests)
 
 -- the answer's closing figures are the last
-pub closes_with : (kind : PostingKind) (m : Figures) (answer : Answered) (t : Tally) → AsLong t → has_place kind m.month (length t.months) ≡ true → (counted kind m answer t).closings ≡ take (length (counted kind m answer t).months - 1) (counted kind m answer t).closings ++ answer.closing ∷ []
+pub closes_with : (kind : PostingKind) (m : Figures) (answer : Answered) (t : Tally) → AsLong t
+    → has_place kind m.month (length t.months) ≡ true
+    → (counted kind m answer t).closings ≡ take (length (counted kind m answer t).months - 1) (counted kind m answer t).closings ++ answer.closing ∷ []
 closes_with Entry m answer t long placed =
     ap (λ cs. cs ++ answer.closing ∷ []) (sym (take_at t.closings (answer.closing ∷ []) (length (t.months ++ m ∷ []) - 1) (omega (arith, long.closings, length_push t.months m))))
 closes_with Amendment m answer t long placed =

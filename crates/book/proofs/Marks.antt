@@ -1,5 +1,6 @@
 -- A mark put on a month changes nothing that the tally speaks of.
-use Rattle.std.proofs.Common.{◌≡◌, ℕ, zero, suc, ◌-◌, ◌<◌, true, List, [], ◌∷◌, ◌++◌, map, length, take, get_or, set, Option, Some, None, Ok, Err, Result, OnOk, OnErr, MatchResult, sym, refl, ap, subst, ◌∙◌, arith}
+use Rattle.std.proofs.Common.{◌≡◌, ℕ, zero, suc, ◌-◌, ◌<◌, true, List, [], ◌∷◌, ◌++◌, map, length, take, get_or, set, Option, Some, None}
+use Rattle.std.proofs.Common.{Ok, Err, Result, OnOk, OnErr, MatchResult, sym, refl, ap, subst, ◌∙◌, arith}
 use Rattle.std.specs.Option.{option_map, unwrap_or}
 use Rattle.std.proofs.lemmas.Bool.{and_parts, cond-true, false≢true}
 use Rattle.std.proofs.lemmas.List.{map_push}
@@ -25,7 +26,8 @@ use Rattle.book.specs.declared.opened.Opened.{Opened}
 use Rattle.book.proofs.Changed.{set_changed, changed_place, length_changed, map_kept, of_other_month}
 
 -- the last element, by what is read of it
-pub last_read : {X Y : Type 0} (read : X → Y) (xs : List X) (ys : List Y) (y : Y) → map read xs ≡ ys ++ y ∷ [] → (zs : List X) × (z : X) × (xs ≡ zs ++ z ∷ []) × (read z ≡ y)
+pub last_read : {X Y : Type 0} (read : X → Y) (xs : List X) (ys : List Y) (y : Y) → map read xs ≡ ys ++ y ∷ []
+    → (zs : List X) × (z : X) × (xs ≡ zs ++ z ∷ []) × (read z ≡ y)
 last_read read [] [] y e = absurd (cc)
 last_read read [] (_ ∷ _) y e = absurd (cc)
 last_read read (x ∷ []) [] y e = ([], x, refl, (cc))
@@ -41,7 +43,8 @@ left_read [] (suc n) = refl
 left_read (r ∷ rs) (suc zero) = refl
 left_read (r ∷ rs) (suc (suc n)) = left_read rs (suc n)
 
-marked_reconciled : (mark : Mark) (month : ℕ) (row : List Meaning) (o : OpeningNumbers) (ps : List Posting) (a : Account) → Reconciled row o ps a → Reconciled row o ps (marked mark month a)
+marked_reconciled : (mark : Mark) (month : ℕ) (row : List Meaning) (o : OpeningNumbers) (ps : List Posting) (a : Account)
+    → Reconciled row o ps a → Reconciled row o ps (marked mark month a)
 marked_reconciled mark month row o ps a h =
     let put = λ (r : Record). record r { mark = mark } in
     let closings = map_kept put (λ r. r.closing) (λ _. refl) month a.records in
@@ -62,13 +65,16 @@ marked_reconciled mark month row o ps a h =
       by_rule = h.by_rule;
     }
 
-spent_reconciled : (row : List Meaning) (o : OpeningNumbers) (ps : List Posting) (before after : Option Account) (duty : Duty) (mark : Mark) → Spent before after duty mark → BookReconciled row o ps before → BookReconciled row o ps after
+spent_reconciled : (row : List Meaning) (o : OpeningNumbers) (ps : List Posting) (before after : Option Account) (duty : Duty) (mark : Mark)
+    → Spent before after duty mark → BookReconciled row o ps before → BookReconciled row o ps after
 spent_reconciled row o ps None after duty mark s h = absurd h
 spent_reconciled row o ps (Some a) after duty mark s h =
     subst (BookReconciled row o ps) (sym s.book) (marked_reconciled mark duty.month row o ps a h)
 
 -- a duty that is spent or refused leaves the book in agreement with its tally
-pub duty_reconciled : {S : Type 0} (r : Result Unit ReturnedDuty) (row : List Meaning) (o : OpeningNumbers) (ps : List Posting) (before after : BookState S) (duty : Duty) (mark : Mark) → MatchResult r (λ _. Spent before.account after.account duty mark) (λ e. Returned before.account duty e) → OnErr r (after ≡ before) → BookReconciled row o ps before.account → BookReconciled row o ps after.account
+pub duty_reconciled : {S : Type 0} (r : Result Unit ReturnedDuty) (row : List Meaning) (o : OpeningNumbers) (ps : List Posting) (before after : BookState S) (duty : Duty) (mark : Mark)
+    → MatchResult r (λ _. Spent before.account after.account duty mark) (λ e. Returned before.account duty e) → OnErr r (after ≡ before)
+    → BookReconciled row o ps before.account → BookReconciled row o ps after.account
 duty_reconciled (Ok _) row o ps before after duty mark s same h = spent_reconciled row o ps _ _ duty mark s h
 duty_reconciled (Err _) row o ps before after duty mark s same h = subst (λ b. BookReconciled row o ps b.account) (sym same) h
 
@@ -89,7 +95,8 @@ month_within zero n rs pending at = absurd (false≢true pending)
 month_within (suc k) n rs pending at = omega (arith, place_within rs k pending)
 
 -- the month of a duty that is owed stands
-pub owed_within : (opened : Option Opened) (months : List Month) (billed : List (UpTo Rate 8)) (rs : List Record) (before : Option Account) (duty : Duty) (n : ℕ) → held_by opened months billed rs ≡ before → is_owed before duty ≡ true → n ≡ duty.month - 1 → n < length rs
+pub owed_within : (opened : Option Opened) (months : List Month) (billed : List (UpTo Rate 8)) (rs : List Record) (before : Option Account) (duty : Duty) (n : ℕ)
+    → held_by opened months billed rs ≡ before → is_owed before duty ≡ true → n ≡ duty.month - 1 → n < length rs
 owed_within None months billed rs before duty n was owed at =
     absurd (false≢true (ap (λ a. is_owed a duty) was ∙ owed))
 owed_within (Some o) months billed rs before duty n was owed at =
@@ -126,6 +133,7 @@ spent_marks (Some a) after duty mark s =
     })
 
 -- so it is where a duty was spent or refused
-pub duty_marks : (r : Result Unit ReturnedDuty) (before after : Option Account) (duty : Duty) (mark : Mark) → MatchResult r (λ _. Spent before after duty mark) (λ e. Returned before duty e) → OnOk r (MarkSet before after duty.month mark)
+pub duty_marks : (r : Result Unit ReturnedDuty) (before after : Option Account) (duty : Duty) (mark : Mark)
+    → MatchResult r (λ _. Spent before after duty mark) (λ e. Returned before duty e) → OnOk r (MarkSet before after duty.month mark)
 duty_marks (Ok _) before after duty mark s = spent_marks before after duty mark s
 duty_marks (Err _) before after duty mark s = tt

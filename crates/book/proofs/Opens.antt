@@ -1,5 +1,6 @@
 -- Question 15, and what a book holds that was just opened.
-use Rattle.std.proofs.Common.{◌≡◌, ℕ, Bool, true, false, not, List, [], ◌∷◌, ◌++◌, length, pos, Option, Some, None, refl, ap, sym, ◌∙◌, subst, rules, arith}
+use Rattle.std.proofs.Common.{◌≡◌, ℕ, Bool, true, false, not, List, [], ◌∷◌, ◌++◌, length, pos, Option, Some, None, refl, ap, sym, ◌∙◌}
+use Rattle.std.proofs.Common.{subst, rules, arith}
 use Rattle.std.specs.Option.{is_some}
 use Rattle.std.proofs.lemmas.Bool.Decides.{nat_tests}
 use Rattle.std.proofs.lemmas.Bool.{false≢true}
@@ -59,14 +60,17 @@ module _ (n told_n : ℕ) (before : Option Account) (g : Given) (is_told : told_
       record { first = first; told = carried_some book_refusal (carried NotOpen (opening_asked n before g)) (NotOpen e) first }
 
 -- `is_none` of what a book has opened tells whether it is closed
-is_none_closed : (opened : Option Opened) (months : List Month) (billed : List (UpTo Rate 8)) (records : List Record) (flag : Bool) → is_some opened ≡ not flag → flag ≡ is_closed (held_by opened months billed records)
+is_none_closed : (opened : Option Opened) (months : List Month) (billed : List (UpTo Rate 8)) (records : List Record) (flag : Bool)
+    → is_some opened ≡ not flag → flag ≡ is_closed (held_by opened months billed records)
 is_none_closed None months billed records true e = refl
 is_none_closed None months billed records false e = cc
 is_none_closed (Some o) months billed records true e = cc
 is_none_closed (Some o) months billed records false e = refl
 
 -- a closed book has no month
-closed_empty : (row : List Meaning) (opened : Option Opened) (months : List Month) (billed : List (UpTo Rate 8)) (records : List Record) → is_closed (held_by opened months billed records) ≡ true → Sound row opened months billed records → (months ≡ []) × (billed ≡ []) × (records ≡ [])
+closed_empty : (row : List Meaning) (opened : Option Opened) (months : List Month) (billed : List (UpTo Rate 8)) (records : List Record)
+    → is_closed (held_by opened months billed records) ≡ true → Sound row opened months billed records
+    → (months ≡ []) × (billed ≡ []) × (records ≡ [])
 closed_empty row None months billed records e s = (nil_from_length months s.suits, nil_from_length billed (s.all_billed ∙ s.suits), nil_from_length records (s.all_recorded ∙ s.suits))
 closed_empty row (Some o) months billed records e s = absurd (false≢true e)
 
@@ -75,7 +79,8 @@ not_empty [] y zs e = cc
 not_empty (x ∷ xs) y zs e = cc
 
 -- a newly opened account agrees with the tally of no file
-newly_reconciled : (row : List Meaning) (g : Given) → length g.rates ≡ length row → length g.balances ≡ length row → Reconciled row (numbers_of g) [] (newly_opened g)
+newly_reconciled : (row : List Meaning) (g : Given) → length g.rates ≡ length row → length g.balances ≡ length row
+    → Reconciled row (numbers_of g) [] (newly_opened g)
 newly_reconciled row g each_rate each_balance = record {
   spread = refl;
   balances = refl;
@@ -122,7 +127,8 @@ module _ {row : List Meaning} {opened : Option Opened} {months : List Month} {bi
     (is_told : count ≡ told (length next))
     (is_none : is_some opened ≡ not closed)
   where
-    pub not_opened : (e : OpeningFault) → ((account : Option Account) → closed ≡ is_closed account → first_no (opening_asked count account g) ≡ Some e)
+    pub not_opened : (e : OpeningFault)
+        → ((account : Option Account) → closed ≡ is_closed account → first_no (opening_asked count account g) ≡ Some e)
         → NotOpened (length next) (held_by opened months billed records) g (NotOpen e)
     not_opened e refuses = first_no_of (length next) count _ g is_told e (refuses _ (is_none_closed opened months billed records closed is_none))
 

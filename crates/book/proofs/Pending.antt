@@ -1,5 +1,6 @@
 -- Which filings are left pending.
-use Rattle.std.proofs.Common.{◌≡◌, ℕ, zero, suc, Bool, true, false, List, [], ◌∷◌, ◌++◌, map, Option, Some, None, Ok, Err, Result, IsOk, MatchResult, ◌↔◌, ◌==◌, slice_get, refl, ap, sym, ◌∙◌, arith}
+use Rattle.std.proofs.Common.{◌≡◌, ℕ, zero, suc, Bool, true, false, List, [], ◌∷◌, ◌++◌, map, Option, Some, None, Ok, Err, Result, IsOk}
+use Rattle.std.proofs.Common.{MatchResult, ◌↔◌, ◌==◌, slice_get, refl, ap, sym, ◌∙◌, arith}
 use Rattle.std.specs.Cmp.Derive.{both_true}
 use Rattle.std.specs.Option.{option_map}
 use Rattle.std.proofs.lemmas.Bool.{and_parts, false≢true}
@@ -82,7 +83,8 @@ module _ (mark : Mark) (ends : is_pending mark ≡ false) where
   with_mark r = record r { mark = mark }
 
   -- where none pended before one was added, the one that pends is the one added; with this mark it does not, and then none pends
-  none_at_once_marked : (rs : List Record) (added : Record) (place : ℕ) → NoneAt rs → pends (slice_get (rs ++ added ∷ []) place) ≡ true → NoneAt (changed_at with_mark place (rs ++ added ∷ []))
+  none_at_once_marked : (rs : List Record) (added : Record) (place : ℕ) → NoneAt rs → pends (slice_get (rs ++ added ∷ []) place) ≡ true
+      → NoneAt (changed_at with_mark place (rs ++ added ∷ []))
   none_at_once_marked [] added zero none pending zero is = false≢true (sym ends ∙ ap is_told_pending is)
   none_at_once_marked [] added zero none pending (suc n) is = cc
   none_at_once_marked [] added (suc place) none pending n is = absurd (false≢true pending)
@@ -90,7 +92,8 @@ module _ (mark : Mark) (ends : is_pending mark ≡ false) where
   none_at_once_marked (r ∷ rs) added (suc place) none pending zero is = none zero is
   none_at_once_marked (r ∷ rs) added (suc place) none pending (suc n) is = none_at_once_marked rs added place (λ k. none (suc k)) pending n is
 
-  pub none_once_marked : (rs : List Record) (added : Record) (month : ℕ) → NoneOf rs → pends (of_month (rs ++ added ∷ []) month) ≡ true → NoneOf (changed_month with_mark month (rs ++ added ∷ []))
+  pub none_once_marked : (rs : List Record) (added : Record) (month : ℕ) → NoneOf rs → pends (of_month (rs ++ added ∷ []) month) ≡ true
+      → NoneOf (changed_month with_mark month (rs ++ added ∷ []))
   none_once_marked rs added zero none pending month is = absurd (false≢true pending)
   none_once_marked rs added (suc place) none pending zero is = cc
   none_once_marked rs added (suc place) none pending (suc n) is = none_at_once_marked rs added place (λ k. none (suc k)) pending n is

@@ -14,7 +14,8 @@ use Rattle.book.specs.Tally.{Posting, posted, tally, no_months}
 use Rattle.book.proofs.Standings.{StandingsLeft}
 
 -- a posting among others and one more: it is the last one, or it stands among the others
-pub split_last : {X : Type 0} (ps earlier later : List X) (q p : X) → ps ++ q ∷ [] ≡ earlier ++ p ∷ later → ((ps ≡ earlier) × (q ≡ p)) ⊎ ((rest : List X) × (ps ≡ earlier ++ p ∷ rest))
+pub split_last : {X : Type 0} (ps earlier later : List X) (q p : X) → ps ++ q ∷ [] ≡ earlier ++ p ∷ later
+    → ((ps ≡ earlier) × (q ≡ p)) ⊎ ((rest : List X) × (ps ≡ earlier ++ p ∷ rest))
 split_last [] [] later q p e = inl (refl, ap (λ l. get_or l 0 q) e)
 split_last [] (x ∷ xs) later q p e = absurd (let long = ap length e in omega (arith, long, length-append xs (p ∷ later)))
 split_last (y ∷ ys) [] later q p e = inr (ys, ap (λ z. z ∷ ys) (ap (λ l. get_or l 0 q) e))
@@ -32,12 +33,14 @@ pub record AcceptsPosting (row : List Meaning) (o : OpeningNumbers) (before : Ac
   pub recorded : length after.records ≡ length after.months
   pub counted : tally_of after ≡ posted (tally_of before) p
   pub standings : StandingsLeft after.records
-  pub closed : (earlier : List Record) (last : Record) → after.records ≡ earlier ++ last ∷ [] → last.closing ≡ closing_now row after.balances after.months after.billed
+  pub closed : (earlier : List Record) (last : Record) → after.records ≡ earlier ++ last ∷ []
+      → last.closing ≡ closing_now row after.balances after.months after.billed
   pub file : p.file ≡ file_of p.stated
   pub by_rule : ByRule row o (tally_of before) p
 
 module _ (row : List Meaning) (o : OpeningNumbers) (ps : List Posting) (before : Account) (r : Reconciled row o ps before) (p : Posting) where
-  ruled_each : ByRule row o (tally_of before) p → (earlier : List Posting) (q : Posting) (later : List Posting) → ps ++ p ∷ [] ≡ earlier ++ q ∷ later → ByRule row o (tally o earlier) q
+  ruled_each : ByRule row o (tally_of before) p → (earlier : List Posting) (q : Posting) (later : List Posting)
+      → ps ++ p ∷ [] ≡ earlier ++ q ∷ later → ByRule row o (tally o earlier) q
   ruled_each ruled earlier q later e =
       let now : ByRule row o (tally o ps) p = subst (λ t. ByRule row o t p) r.counted ruled in
       elim (split_last ps earlier later p q e) [

@@ -32,7 +32,8 @@ number m = (figures m).month
 
 -- the month is written at the place of its number
 module _ (row : List Meaning) (months : List Month) (m : Month) (n : ℕ) (at : n ≡ (figures m).month - 1) where
-  figures_replaced : Admits Amendment row (length months) (figures m) → map figures (set months n m) ≡ changed_month (λ _. figures m) (figures m).month (map figures months)
+  figures_replaced : Admits Amendment row (length months) (figures m)
+      → map figures (set months n m) ≡ changed_month (λ _. figures m) (figures m).month (map figures months)
   figures_replaced admitted =
       let stands = standing_month (figures m).month (length months) admitted.placed in
       map-set figures months n m ∙ set_constant (map figures months) n (figures m) ∙ changed_place (λ _. figures m) (map figures months) (figures m).month n (omega arith)
@@ -42,14 +43,18 @@ module _ (row : List Meaning) (months : List Month) (m : Month) (n : ℕ) (at : 
       rw (map-set figures months n m) (All-set (λ f. Valid f × ((numbered row i).fit f ≡ true)) (map figures months) n (figures m) (month_valid m, admitted.fit i inside) (fit i inside))
 
   -- the months stay in order
-  in_order_replaced : map number months ≡ by_number suc (length months) → Admits Amendment row (length months) (figures m) → map number (set months n m) ≡ by_number suc (length (set months n m))
+  in_order_replaced : map number months ≡ by_number suc (length months) → Admits Amendment row (length months) (figures m)
+      → map number (set months n m) ≡ by_number suc (length (set months n m))
   in_order_replaced in_order admitted =
       let stands = standing_month (figures m).month (length months) admitted.placed in
       let same : number m ≡ get_or (map number months) n 0 = omega (arith, index-by_number suc (length months) n 0 (omega arith), ap (λ ns. get_or ns n 0) in_order) in
       map-set number months n m ∙ ap (set (map number months) n) same ∙ set-get_or (map number months) n 0 ∙ in_order ∙ ap (by_number suc) (sym (length-set months n m))
 
   -- a sound book is sound with the month in place of the one that stood
-  pub sound_with_replaced : (opened : Option Opened) (billed : List (UpTo Rate 8)) (records : List Record) → Sound row opened months billed records → first_no (posting_asked Amendment row (held_by opened months billed records) (figures m)) ≡ None → Sound row opened (set months n m) billed records
+  pub sound_with_replaced : (opened : Option Opened) (billed : List (UpTo Rate 8)) (records : List Record)
+      → Sound row opened months billed records
+      → first_no (posting_asked Amendment row (held_by opened months billed records) (figures m)) ≡ None
+      → Sound row opened (set months n m) billed records
   sound_with_replaced None billed records sound clear = absurd (false≢true (all_yes (posting_asked Amendment row None (figures m)) clear).0)
   sound_with_replaced (Some o) billed records sound clear =
       let admitted = admits Amendment row o months billed records (figures m) clear in
@@ -63,7 +68,9 @@ module _ (row : List Meaning) (months : List Month) (m : Month) (n : ℕ) (at : 
         suits = sound.suits;
       }
 
-  pub replaces : (opened : Option Opened) (billed : List (UpTo Rate 8)) (records : List Record) → first_no (posting_asked Amendment row (held_by opened months billed records) (figures m)) ≡ None → Replaces (held_by opened months billed records) (held_by opened (set months n m) billed records) (figures m)
+  pub replaces : (opened : Option Opened) (billed : List (UpTo Rate 8)) (records : List Record)
+      → first_no (posting_asked Amendment row (held_by opened months billed records) (figures m)) ≡ None
+      → Replaces (held_by opened months billed records) (held_by opened (set months n m) billed records) (figures m)
   replaces None billed records clear = absurd (false≢true (all_yes (posting_asked Amendment row None (figures m)) clear).0)
   replaces (Some o) billed records clear =
       let admitted = admits Amendment row o months billed records (figures m) clear in

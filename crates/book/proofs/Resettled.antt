@@ -21,18 +21,21 @@ use Rattle.book.proofs.Fits.{fit_lawfully, months_of}
 
 module _ (row : List Meaning) (months : List Month) (billed : List (UpTo Rate 8)) (records : List Record) where
   -- a month stands, and has a record
-  pub some_recorded : (opened : Option Opened) → Sound row opened months billed records → SomeMonth (held_by opened months billed records) → 1 ≤ length records
+  pub some_recorded : (opened : Option Opened) → Sound row opened months billed records → SomeMonth (held_by opened months billed records)
+      → 1 ≤ length records
   some_recorded None sound some = absurd some
   some_recorded (Some o) sound some = omega (arith, some, sound.all_recorded, length-map months figures)
 
-  pub settles_now : {opened : Option Opened} (o : Opened) → opened ≡ Some o → All Lawful row → Sound row opened months billed records → SomeMonth (held_by opened months billed records) → EachSettleable row (length (opening_units o.terms.balances)) (map figures months)
+  pub settles_now : {opened : Option Opened} (o : Opened) → opened ≡ Some o → All Lawful row → Sound row opened months billed records
+      → SomeMonth (held_by opened months billed records) → EachSettleable row (length (opening_units o.terms.balances)) (map figures months)
   settles_now o is laws sound some =
       let sound_open = subst (λ (x : Option Opened). Sound row x months billed records) is sound in
       let some_open = subst (λ (x : Option Opened). SomeMonth (held_by x months billed records)) is some in
       fit_lawfully row (map figures months) (months_of row (Some o) months billed records sound_open) laws (length (opening_units o.terms.balances)) (sym sound_open.suits) some_open
 
   -- of the record r that is read only the mark stays
-  pub settled_by_write : (o : Opened) (last : ℕ) (r : Record) (before : Option Record) (answer : Answer) → length records ≡ last + 1 → r ≡ get_or records last r → before ≡ of_month records last
+  pub settled_by_write : (o : Opened) (last : ℕ) (r : Record) (before : Option Record) (answer : Answer) → length records ≡ last + 1
+      → r ≡ get_or records last r → before ≡ of_month records last
       → answered answer ≡ settled row o.terms.spread.months (opening_units o.terms.balances) (map figures months) (map units_of billed) (left_by before) (is_barred before)
       → SettlesNow row (Some (account_of o months billed records)) (Some (account_of (record o { announced = answer.rates }) months billed (set records last (record { closing = answer.closing; mark = r.mark; standing = answer.standing })))) (answered answer)
   settled_by_write o last r before answer long read before_is answer_is =

@@ -57,7 +57,8 @@ module _ (row : List Meaning) (t : Tally) (i : ℕ) (all : AllLawful (numbered r
   covered (suc n) few =
       omega (arith, ints, covered n (omega arith), month_covered n few, int_sum_more short n, int_sum_more billed n, int_sum_more allowed n)
 
-  tight : (n : ℕ) → n ≤ length t.months → (int_sum (by_number allowed n) +ℤ pos n) ≤ℤ ((int_sum (by_number short n) +ℤ int_sum (by_number billed n)) +ℤ int_sum (by_number used n))
+  tight : (n : ℕ) → n ≤ length t.months
+      → (int_sum (by_number allowed n) +ℤ pos n) ≤ℤ ((int_sum (by_number short n) +ℤ int_sum (by_number billed n)) +ℤ int_sum (by_number used n))
   tight zero few = omega (arith, ints)
   tight (suc n) few =
       omega (arith, ints, tight n (omega arith), month_tight n few, int_sum_more short n, int_sum_more billed n, int_sum_more allowed n, int_sum_more used n)
@@ -66,7 +67,8 @@ module _ (row : List Meaning) (t : Tally) (i : ℕ) (all : AllLawful (numbered r
   no_month : (f : ℕ → ℤ) (n : ℕ) → n ≡ 0 → int_sum (by_number f n) ≡ pos 0
   no_month f n none = ap (λ m. int_sum (by_number f m)) none
 
-  pub rest_bounded : (o : OpeningNumbers) (outstanding : ℕ → ℤ) → outstanding i ≡ balance row o t i → RestWithin (length t.months) (all_quantities row t i) (rounding_rest row o t outstanding i)
+  pub rest_bounded : (o : OpeningNumbers) (outstanding : ℕ → ℤ) → outstanding i ≡ balance row o t i
+      → RestWithin (length t.months) (all_quantities row t i) (rounding_rest row o t outstanding i)
   rest_bounded o outstanding is =
       let n : ℕ = length t.months in
       let least = covered n (omega arith) in

@@ -92,7 +92,8 @@ module _ (row : List Meaning) (o : OpeningNumbers) (mechanisms : length o.balanc
       let each = all_of (λ p. length p.answer.rates ≡ length row) ps (λ earlier p later split. rated (tally o earlier) (tally_as_long o earlier) p (by_rule earlier p later split)) in
       postings_rated (length row) ps (no_months o) each (record { billed = All-nil (λ (rates : List ℤ). length rates ≡ length row); announced = starting })
 
-pub each_counted : (row : List Meaning) (o : OpeningNumbers) (ps : List Posting) → All (λ p. p.file ≡ file_of p.stated) ps → EachByRule row o ps → EachPosting o ps (λ before p after. PostingCounted row before p)
+pub each_counted : (row : List Meaning) (o : OpeningNumbers) (ps : List Posting) → All (λ p. p.file ≡ file_of p.stated) ps
+    → EachByRule row o ps → EachPosting o ps (λ before p after. PostingCounted row before p)
 each_counted row o ps files by_rule earlier p later split =
     let r = by_rule earlier p later split in
     record {

@@ -29,7 +29,8 @@ pub record Settles (row : List Meaning) (o : Opened) (months : List Month) (bill
   pub lawful : EachSettleable row (length (opening_units o.terms.balances)) (map figures months ++ figures m ∷ [])
 
 module _ (row : List Meaning) {opened : Option Opened} (o : Opened) (months : List Month) (billed : List (UpTo Rate 8)) (records : List Record) (is : opened ≡ Some o) where
-  pub settles : (m : Month) → All Lawful row → Sound row opened months billed records → first_no (posting_asked Entry row (held_by opened months billed records) (figures m)) ≡ None → Settles row o months billed m
+  pub settles : (m : Month) → All Lawful row → Sound row opened months billed records
+      → first_no (posting_asked Entry row (held_by opened months billed records) (figures m)) ≡ None → Settles row o months billed m
   settles m laws sound clear =
       let sound_open = subst (λ (x : Option Opened). Sound row x months billed records) is sound in
       let clear_open = subst (λ (x : Option Opened). first_no (posting_asked Entry row (held_by x months billed records) (figures m)) ≡ None) is clear in
@@ -46,5 +47,6 @@ module _ (row : List Meaning) {opened : Option Opened} (o : Opened) (months : Li
       }
 
   -- an answer of the open book is one of the book
-  pub answers_held : (m : Figures) (answer : Answered) → answer ≡ answer_to row (account_of o months billed records) m → AnswersTo row (held_by opened months billed records) m answer
+  pub answers_held : (m : Figures) (answer : Answered) → answer ≡ answer_to row (account_of o months billed records) m
+      → AnswersTo row (held_by opened months billed records) m answer
   answers_held m answer answers = subst (λ (x : Option Opened). AnswersTo row (held_by x months billed records) m answer) (sym is) answers

@@ -1,5 +1,6 @@
 -- What is outstanding is opening balance and allowances less what was billed.
-use Rattle.std.proofs.Common.{◌≡◌, ℕ, zero, suc, ◌-◌, ◌<◌, List, length, refl, ap, sym, ◌∙◌, ℤ, pos, ◌+ℤ◌, ◌-ℤ◌, ◌*ℤ◌, Some, slice_get, slice_index, arith}
+use Rattle.std.proofs.Common.{◌≡◌, ℕ, zero, suc, ◌-◌, ◌<◌, List, length, refl, ap, sym, ◌∙◌, ℤ, pos, ◌+ℤ◌, ◌-ℤ◌, ◌*ℤ◌, Some, slice_get}
+use Rattle.std.proofs.Common.{slice_index, arith}
 use Rattle.std.proofs.Math.IntN.{*ℤ_comm}
 use Rattle.std.proofs.lemmas.Int.{ints}
 use Rattle.std.proofs.lemmas.Option.{slice_get-get_or}
@@ -29,7 +30,8 @@ pub place_of_month : (j : ℕ) → suc j - 1 ≡ j
 place_of_month j = omega arith
 
 -- with months counted from 1
-pub outstanding_is : (k : Meaning) (i : ℕ) (opening : ℤ) (ms : List Figures) (bills : List (List ℤ)) → outstanding k i opening ms bills ≡ (opening +ℤ int_sum (by_number (λ j. pos (allowance_at k ms j)) (length ms))) -ℤ int_sum (by_number (λ j. pos (quantity_at k ms (suc j - 1)) *ℤ billed_rate bills i (suc j - 1)) (length ms))
+pub outstanding_is : (k : Meaning) (i : ℕ) (opening : ℤ) (ms : List Figures) (bills : List (List ℤ))
+    → outstanding k i opening ms bills ≡ (opening +ℤ int_sum (by_number (λ j. pos (allowance_at k ms j)) (length ms))) -ℤ int_sum (by_number (λ j. pos (quantity_at k ms (suc j - 1)) *ℤ billed_rate bills i (suc j - 1)) (length ms))
 outstanding_is k i opening ms bills =
     let allowed : ℕ → ℤ = λ j. pos (allowance_at k ms j) in
     let listed : ℕ → ℤ = λ j. pos (slice_index (allowances k ms) j) in

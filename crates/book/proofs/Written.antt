@@ -29,7 +29,9 @@ no_month months zero none = refl
 no_month months (suc j) none = slice_get_past months j (omega arith)
 
 -- a month is told by the figures of the one that stands, as a closed book has none
-pub told_by_months : (row : List Meaning) (opened : Option Opened) (months : List Month) (billed : List (UpTo Rate 8)) (records : List Record) (month : ℕ) → Sound row opened months billed records → month_told (held_by opened months billed records) month ≡ option_map figures (of_month months month)
+pub told_by_months : (row : List Meaning) (opened : Option Opened) (months : List Month) (billed : List (UpTo Rate 8)) (records : List Record) (month : ℕ)
+    → Sound row opened months billed records
+    → month_told (held_by opened months billed records) month ≡ option_map figures (of_month months month)
 told_by_months row None months billed records month sound = sym (ap (option_map figures) (no_month months month sound.suits))
 told_by_months row (Some o) months billed records zero sound = refl
 told_by_months row (Some o) months billed records (suc j) sound = slice_get-map figures months j

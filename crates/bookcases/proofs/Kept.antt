@@ -1,5 +1,6 @@
 -- A book owes what is kept beside it after an entry, an amendment, a filing, and its opening.
-use Rattle.std.proofs.Common.{◌≡◌, ℕ, zero, suc, ◌+◌, ◌<◌, ◌≤◌, true, ◌==◌, List, [], ◌∷◌, ◌++◌, length, Option, Some, None, Result, Ok, Err, IfOk, OnErr, MatchResult, refl, ap, sym, ◌∙◌, subst, arith}
+use Rattle.std.proofs.Common.{◌≡◌, ℕ, zero, suc, ◌+◌, ◌<◌, ◌≤◌, true, ◌==◌, List, [], ◌∷◌, ◌++◌, length, Option, Some, None, Result, Ok}
+use Rattle.std.proofs.Common.{Err, IfOk, OnErr, MatchResult, refl, ap, sym, ◌∙◌, subst, arith}
 use Rattle.std.proofs.lemmas.Bool.{false≢true, and_parts, and_from, cond-true}
 use Rattle.std.proofs.lemmas.Bool.Decides.{nat_tests}
 use Rattle.std.proofs.lemmas.List.{length_push, length-map}
@@ -67,7 +68,8 @@ module _ (row : List Meaning) (a : Account) (m : Figures) (d : Duty)
     (last : length a.records < d.month)
     (owed : is_owed (Some (with_month row a m)) d ≡ true)
   where
-    owing_more : (month : ℕ) (ds : List Duty) → month ≤ length a.records → Owing (Some a) month ds → Owing (Some (with_month row a m)) month (ds ++ d ∷ [])
+    owing_more : (month : ℕ) (ds : List Duty) → month ≤ length a.records → Owing (Some a) month ds
+        → Owing (Some (with_month row a m)) month (ds ++ d ∷ [])
     owing_more month [] within o = (omega (arith, last, within), owed, tt)
     owing_more month (e ∷ es) within o =
         (o.0, owed_more a e o.1 row m, owing_more e.month es (owed_within a e o.1) o.2)
@@ -99,18 +101,23 @@ closed_none n (Some a) g clear = absurd (false≢true (all_yes (opening_asked n 
 pub keeps_none : Keeps None []
 keeps_none = record { owing = tt; recorded = refl; numbered = tt }
 
-keeps_opened : (n : ℕ) (before after : Option Account) (g : Given) (ds : List Duty) → g.number ≡ 1 → Keeps before ds → Opens n before after g → Keeps after ds
+keeps_opened : (n : ℕ) (before after : Option Account) (g : Given) (ds : List Duty) → g.number ≡ 1 → Keeps before ds
+    → Opens n before after g → Keeps after ds
 keeps_opened n before after g ds number keeps opens =
     let closed = closed_none n before g opens.asked in
     let none = closed_owes 0 ds (subst (λ b. Owing b 0 ds) closed keeps.owing) in
     rw (none, opens.book) (record { owing = tt; recorded = refl; numbered = number })
 
 -- whether it was opened or refused
-pub keeps_asked : {S T : Type 0} (n : ℕ) (before after : BookState S) (g : Given) (ds : List Duty) (result : Result T BookFault) → g.number ≡ 1 → Keeps before.account ds → MatchResult result (λ _. Opens n before.account after.account g) (λ e. NotOpened n before.account g e) → OnErr result (after ≡ before) → Keeps after.account ds
+pub keeps_asked : {S T : Type 0} (n : ℕ) (before after : BookState S) (g : Given) (ds : List Duty) (result : Result T BookFault)
+    → g.number ≡ 1 → Keeps before.account ds
+    → MatchResult result (λ _. Opens n before.account after.account g) (λ e. NotOpened n before.account g e) → OnErr result (after ≡ before)
+    → Keeps after.account ds
 keeps_asked n before after g ds (Ok _) number keeps opens same = keeps_opened n before.account after.account g ds number keeps opens
 keeps_asked n before after g ds (Err e) number keeps refused same = subst (λ b. Keeps b.account ds) (sym same) keeps
 
-pub keeps_entered : {row : List Meaning} {before after : Option Account} {file : List ℕ} {answer : Answered} {d : Duty} {ds : List Duty} → Keeps before ds → Entered row before after file answer d → first_no (duty_asked after d) ≡ None → Keeps after (ds ++ d ∷ [])
+pub keeps_entered : {row : List Meaning} {before after : Option Account} {file : List ℕ} {answer : Answered} {d : Duty} {ds : List Duty}
+    → Keeps before ds → Entered row before after file answer d → first_no (duty_asked after d) ≡ None → Keeps after (ds ++ d ∷ [])
 keeps_entered {row = row} {after = after} {d = d} {ds = ds} keeps e clear =
     let a = e.account in
     let kept : Keeps (Some a) ds = subst (λ b. Keeps b ds) e.open_before keeps in
@@ -126,7 +133,8 @@ keeps_entered {row = row} {after = after} {d = d} {ds = ds} keeps e clear =
     })
 
 -- the last duty is not refused, and filing it leaves the others owed
-pub keeps_filed : {before after : Option Account} {d : Duty} {mark : Mark} (ds : List Duty) → Keeps before (ds ++ d ∷ []) → Spent before after d mark → Keeps after ds
+pub keeps_filed : {before after : Option Account} {d : Duty} {mark : Mark} (ds : List Duty) → Keeps before (ds ++ d ∷ [])
+    → Spent before after d mark → Keeps after ds
 keeps_filed {before = None} {d = d} ds keeps spent = absurd (false≢true (all_yes (duty_asked None d) spent.asked).0)
 keeps_filed {before = Some a} {d = d} {mark = mark} ds keeps spent =
     subst (λ b. Keeps b ds) (sym spent.book) (record {
@@ -160,7 +168,8 @@ module _ (month : ℕ) (a b : Account) (keeps : AmendmentKeeps month a b) where
   as_many : length b.records ≡ length a.records
   as_many = sym (length-map b.records (λ r. r.mark)) ∙ ap length keeps.marks ∙ length-map a.records (λ r. r.mark)
 
-keeps_amended : (month : ℕ) (before after : Option Account) (ds : List Duty) → Keeps before ds → AmendmentKeepsBook month before after → Keeps after ds
+keeps_amended : (month : ℕ) (before after : Option Account) (ds : List Duty) → Keeps before ds → AmendmentKeepsBook month before after
+    → Keeps after ds
 keeps_amended month None after ds keeps amended = absurd amended
 keeps_amended month (Some a) None ds keeps amended = absurd amended
 keeps_amended month (Some a) (Some b) ds keeps amended = record {
@@ -170,6 +179,8 @@ keeps_amended month (Some a) (Some b) ds keeps amended = record {
 }
 
 -- whether it was accepted or refused
-pub keeps_posted : {S : Type 0} (X : Type 0) (before after : BookState S) (ds : List Duty) (result : Result ℕ BookFault) → Keeps before.account ds → IfOk result (λ month. AmendmentKeepsBook month before.account after.account) → OnErr result ((after ≡ before) × X) → Keeps after.account ds
+pub keeps_posted : {S : Type 0} (X : Type 0) (before after : BookState S) (ds : List Duty) (result : Result ℕ BookFault)
+    → Keeps before.account ds → IfOk result (λ month. AmendmentKeepsBook month before.account after.account)
+    → OnErr result ((after ≡ before) × X) → Keeps after.account ds
 keeps_posted X before after ds (Ok month) keeps amended same = keeps_amended month before.account after.account ds keeps amended
 keeps_posted X before after ds (Err e) keeps amended same = subst (λ b. Keeps b.account ds) (sym same.0) keeps

@@ -2,7 +2,8 @@
 use Rattle.std.specs.Prelude.{ℕ, ◌*◌, ◌/◌, Bool, if◌then◌else◌, ◌&&◌, List, [], ◌∷◌, nat_le}
 use Rattle.month.specs.Amounts.{sold, discount}
 use Rattle.month.specs.Figures.{Figures}
-use Rattle.charges.specs.Formulas.{generation_rate, generation_allowance, transmission_rate, transmission_allowance, twelve_months, gross_up, loss_rate, loss_allowance, lifeline_rate}
+use Rattle.charges.specs.Formulas.{generation_rate, generation_allowance, transmission_rate, transmission_allowance, twelve_months}
+use Rattle.charges.specs.Formulas.{gross_up, loss_rate, loss_allowance, lifeline_rate}
 use Rattle.charges.specs.Meaning.{Meaning, Pricing, with_price}
 
 -- an answer for the last of the months; with no month, rate 0 and allowance 0

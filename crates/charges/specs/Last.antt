@@ -21,8 +21,10 @@ last_fit k before m stands = All-contains (λ f. Valid f × (k.fit f ≡ true)) 
 
 -- a slice of months, as it is told whether it has a last one
 module _ (ms : List Month) where
-  ends_in : (m : Month) → true ≡ nat_lt 0 (length ms) → m ≡ slice_index_or ms (length ms - 1) m → map figures ms ≡ map figures (take (length ms - 1) ms) ++ figures m ∷ []
+  ends_in : (m : Month) → true ≡ nat_lt 0 (length ms) → m ≡ slice_index_or ms (length ms - 1) m
+      → map figures ms ≡ map figures (take (length ms - 1) ms) ++ figures m ∷ []
   ends_in m h e = grind (arith, common_steps)
 
-  pub with_last : (answer : Figures → ℕ × ℕ) (m : Month) → true ≡ nat_lt 0 (length ms) → m ≡ slice_index_or ms (length ms - 1) m → for_last answer (map figures ms) ≡ answer (figures m)
+  pub with_last : (answer : Figures → ℕ × ℕ) (m : Month) → true ≡ nat_lt 0 (length ms) → m ≡ slice_index_or ms (length ms - 1) m
+      → for_last answer (map figures ms) ≡ answer (figures m)
   with_last answer m h e = simp (ends_in m h e, last_answered)

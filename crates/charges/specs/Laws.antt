@@ -15,7 +15,8 @@ pub sold_most : (m : Figures) → Valid m → sold m ≤ 10000000
 sold_most m v = search rules
 
 -- the kWh sold, at an average that has its limit
-pub sold_at_average : (m : Figures) → Valid m → (cost divisor : ℕ) → 0 < divisor → cost / divisor ≤ 10000000 → LawfulAnswer (sold m) (averaged cost divisor (sold m))
+pub sold_at_average : (m : Figures) → Valid m → (cost divisor : ℕ) → 0 < divisor → cost / divisor ≤ 10000000
+    → LawfulAnswer (sold m) (averaged cost divisor (sold m))
 sold_at_average m v cost divisor some limit = search (rules, average_covered, average_tight, sold_most)
 
 module _ (cost divisor : Figures → ℕ) where
@@ -28,7 +29,8 @@ module _ (cost divisor : Figures → ℕ) where
   average_priced = record { base_rate = λ before m stands. rw last_answered; limit = λ m v fit. search rules }
 
   -- the average is the price, whatever months stand before
-  pub average_price : (m : Figures) (r : ℕ) → r ≡ cost m / divisor m → (average_cost cost divisor).fit m ≡ true → IsPrice (with_price (average_cost cost divisor) (λ f. cost f / divisor f)) m r
+  pub average_price : (m : Figures) (r : ℕ) → r ≡ cost m / divisor m → (average_cost cost divisor).fit m ≡ true
+      → IsPrice (with_price (average_cost cost divisor) (λ f. cost f / divisor f)) m r
   average_price m r is fit = record { is = is; base_rate = λ before stands. rw last_answered is; limit = search rules }
 
 pub generation_lawful : Lawful generation

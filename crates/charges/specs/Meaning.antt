@@ -53,5 +53,6 @@ pub record IsPrice (p : Pricing) (m : Figures) (r : ℕ) : Type 0 where
 
 -- what a priced mechanism keeps in addition: of months that can stand the base rate is the price of the last, and a fit month's price has a limit
 pub record LawfulPrice (p : Pricing) : Type 0 where
-  pub base_rate : (before : List Figures) (m : Figures) → CanStand p.meaning (before ++ m ∷ []) → (p.meaning.assessed (before ++ m ∷ [])).0 ≡ p.price m
+  pub base_rate : (before : List Figures) (m : Figures) → CanStand p.meaning (before ++ m ∷ [])
+      → (p.meaning.assessed (before ++ m ∷ [])).0 ≡ p.price m
   pub limit : (m : Figures) → Valid m → p.meaning.fit m ≡ true → p.price m ≤ 1000000

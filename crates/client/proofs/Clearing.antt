@@ -56,17 +56,20 @@ Leaves outcome account = Pends (handed outcome) account
 abbrev LeftBy : Told → Type 0
 LeftBy told = Leaves told.outcome told.account
 
-spending_clears : (mark : Mark) (before after : Option Account) (duty : Duty) → is_pending mark ≡ false → DutySpent before after duty mark → ClearButLast before → NonePending after
+spending_clears : (mark : Mark) (before after : Option Account) (duty : Duty) → is_pending mark ≡ false → DutySpent before after duty mark
+    → ClearButLast before → NonePending after
 spending_clears mark None after duty settles spent alone = absurd alone
 spending_clears mark (Some a) after duty settles spent alone =
     subst NonePending (sym spent.book) (none_but_last_marked mark a.records duty.month settles alone (owed_pends a duty (owed spent)))
 
-duty_leaves : (mark : Mark) (before after : Option Account) (duty : Duty) (outcome : Outcome) → is_pending mark ≡ false → DutyActed mark before duty outcome after → ClearButLast before → Leaves outcome after
+duty_leaves : (mark : Mark) (before after : Option Account) (duty : Duty) (outcome : Outcome) → is_pending mark ≡ false
+    → DutyActed mark before duty outcome after → ClearButLast before → Leaves outcome after
 duty_leaves mark before after duty Spent settles acted alone = spending_clears mark before after duty settles acted alone
 duty_leaves mark before after duty (Returned returned) settles acted alone = subst ClearButLast (sym acted.1) alone
 duty_leaves mark before after duty outcome settles acted alone = absurd acted
 
-entry_leaves : (row : List Meaning) (before after : Option Account) (file : List ℕ) (outcome : Outcome) → EntryActed row before file outcome after → NonePending before → Leaves outcome after
+entry_leaves : (row : List Meaning) (before after : Option Account) (file : List ℕ) (outcome : Outcome)
+    → EntryActed row before file outcome after → NonePending before → Leaves outcome after
 entry_leaves row before after file (Entered marks answer duty) acted clear =
     let entered = acted.1 in
     subst ClearButLast (sym entered.book) (record { earlier = entered.account.records; last = _; split = refl; none = subst NonePending entered.open_before clear })
@@ -79,13 +82,15 @@ none_amended month (Some a) None keeps none = absurd keeps
 none_amended month (Some a) (Some b) keeps none =
     λ m is. none m (sym (of_month_map (λ r. r.mark) a.records m) ∙ ap (λ marks. of_month marks m) (sym keeps.marks) ∙ of_month_map (λ r. r.mark) b.records m ∙ is)
 
-amendment_leaves : (row : List Meaning) (before after : Option Account) (file : List ℕ) (outcome : Outcome) → AmendmentActed row before file outcome after → NonePending before → Leaves outcome after
+amendment_leaves : (row : List Meaning) (before after : Option Account) (file : List ℕ) (outcome : Outcome)
+    → AmendmentActed row before file outcome after → NonePending before → Leaves outcome after
 amendment_leaves row before after file (Amended marks answer month) acted clear = none_amended month before after (amended_keeps row before after file (answered answer) month acted.1) clear
 amendment_leaves row before after file (Refused fault) acted clear = subst NonePending (sym acted.1) clear
 amendment_leaves row before after file outcome acted clear = absurd acted
 
 -- one call, that spends the duty that pends
-call_leaves : (row : List Meaning) (call : Call) (before after : Option Account) (outcome : Outcome) → Acted row before call outcome after → Pends (sent (Some call)) before → Leaves outcome after
+call_leaves : (row : List Meaning) (call : Call) (before after : Option Account) (outcome : Outcome) → Acted row before call outcome after
+    → Pends (sent (Some call)) before → Leaves outcome after
 call_leaves row (Enter file) before after outcome acted clear = entry_leaves row before after file.items outcome acted clear
 call_leaves row (Amend file) before after outcome acted clear = amendment_leaves row before after file.items outcome acted clear
 call_leaves row (File duty) before after outcome acted alone = duty_leaves Filed before after duty outcome refl acted alone
@@ -95,7 +100,8 @@ call_leaves row (GiveUp duty) before after outcome acted alone = duty_leaves Mis
 module _ {C : Type 0} (answers : C → List Meaning → Told → C → Option Call → Type 0) (row : List Meaning)
     (sends_on : (client next : C) (told : Told) (call : Option Call) → answers client row told next call → sent call ≡ handed told.outcome) where
   -- both sides of the transcript, call after call
-  calls_leave : (client last : C) (es : List Exchange) (final : Told) → Talk answers row client es last → Played row es final → LeftBy (first_told es final) → LeftBy final
+  calls_leave : (client last : C) (es : List Exchange) (final : Told) → Talk answers row client es last → Played row es final
+      → LeftBy (first_told es final) → LeftBy final
   calls_leave client last [] final talk played left = left
   calls_leave client last (e ∷ es) final talk played left =
       let next = first_told es final in
@@ -103,7 +109,8 @@ module _ {C : Type 0} (answers : C → List Meaning → Told → C → Option Ca
       calls_leave talk.0 last es final talk.2 played.1 (call_leaves row e.call e.told.account next.account next.outcome played.0 spent)
 
   -- once it ends the run it was handed no duty
-  pub none_left_pending : {g : Given} {most : ℕ} {first last : C} {before after : Option Account} → Run answers row g most first last None before after → NonePending after
+  pub none_left_pending : {g : Given} {most : ℕ} {first last : C} {before after : Option Account}
+      → Run answers row g most first last None before after → NonePending after
   none_left_pending {g} {most} {first} {last} {before} {after} ran =
       let at_first : LeftBy (first_told ran.exchanges ran.final) = subst LeftBy (sym ran.begins) (none_newly_opened g) in
       let at_last = calls_leave first ran.client ran.exchanges ran.final ran.talk ran.played at_first in

@@ -19,6 +19,7 @@ ends_clear client last (Returned returned) goes = absurd (let is = goes.1 in cc)
 ends_clear client last final goes = goes.1
 
 -- so its run leaves no month pending, once it ends the run
-pub run_clears : {row : List Meaning} {g : Given} {most : ℕ} {first last : Prompt} {before after : Option Account} → Run Prompted row g most first last None before after → NonePending after × (last.files.items ≡ [])
+pub run_clears : {row : List Meaning} {g : Given} {most : ℕ} {first last : Prompt} {before after : Option Account}
+    → Run Prompted row g most first last None before after → NonePending after × (last.files.items ≡ [])
 run_clears {row} {last = last} ran =
     (none_left_pending Prompted row (λ client next told call goes. prompt_sends_on client told.outcome next call goes) ran, ends_clear ran.client last ran.final.outcome ran.ends.0)

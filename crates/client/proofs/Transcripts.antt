@@ -20,7 +20,8 @@ first_told_more : (es : List Exchange) (e : Exchange) (final : Told) → first_t
 first_told_more [] e final = refl
 first_told_more (x ∷ xs) e final = refl
 
-played_more : (row : List Meaning) (es : List Exchange) (e : Exchange) (final : Told) → Played row es e.told → Leads row e.told e.call final → Played row (es ++ e ∷ []) final
+played_more : (row : List Meaning) (es : List Exchange) (e : Exchange) (final : Told) → Played row es e.told → Leads row e.told e.call final
+    → Played row (es ++ e ∷ []) final
 played_more row [] e final played leads = (leads, tt)
 played_more row (x ∷ xs) e final played leads =
     (subst (λ (t : Told). Leads row x.told x.call t) (sym (first_told_more xs e final)) played.0, played_more row xs e final played.1 leads)
@@ -33,7 +34,8 @@ journal_more row o before between after (x ∷ xs) e final journal facts noted =
     (journal.0, journal.1, subst (λ (t : Told). Noted x.call t.outcome before journal.1) (sym (first_told_more xs e final)) journal.2, journal_more row o journal.1 between after xs e final journal.3 facts noted)
 
 module _ {C : Type 0} (answers : C → List Meaning → Told → C → Option Call → Type 0) (row : List Meaning) where
-  talk_more : (first between last : C) (es : List Exchange) (e : Exchange) → Talk answers row first es between → answers between row e.told last (Some e.call) → Talk answers row first (es ++ e ∷ []) last
+  talk_more : (first between last : C) (es : List Exchange) (e : Exchange) → Talk answers row first es between
+      → answers between row e.told last (Some e.call) → Talk answers row first (es ++ e ∷ []) last
   talk_more first between last [] e same answer = (last, subst (λ (c : C). answers c row e.told last (Some e.call)) (sym same) answer, refl)
   talk_more first between last (x ∷ xs) e talk answer = (talk.0, talk.1, talk_more talk.0 between last xs e talk.2 answer)
 
@@ -49,7 +51,8 @@ module _ {C : Type 0} (answers : C → List Meaning → Told → C → Option Ca
     pub reconciled : BookReconciled row (numbers_of g) postings account
 
   -- none was made yet
-  pub none_made : {g : Given} {client : C} {account : Option Account} → account ≡ Some (newly_opened g) → BookReconciled row (numbers_of g) [] account → SoFar g client 0 client Opened account
+  pub none_made : {g : Given} {client : C} {account : Option Account} → account ≡ Some (newly_opened g)
+      → BookReconciled row (numbers_of g) [] account → SoFar g client 0 client Opened account
   none_made opened reconciled = record {
     exchanges = [];
     count = refl;
@@ -67,7 +70,8 @@ module _ {C : Type 0} (answers : C → List Meaning → Told → C → Option Ca
     Audited = (o : OpeningNumbers) (ps : List Posting) → BookReconciled row o ps account → Facts row o ps (read_of row account)
 
     -- one is made more
-    pub one_made : {next : C} {call : Call} {came_to : Outcome} {after : Option Account} → answers client row (telling outcome account) next (Some call) → Acted row account call came_to after → Audited
+    pub one_made : {next : C} {call : Call} {came_to : Outcome} {after : Option Account}
+        → answers client row (telling outcome account) next (Some call) → Acted row account call came_to after → Audited
         → ((o : OpeningNumbers) (before later : List Posting) → BookReconciled row o before account → Noted call came_to before later → BookReconciled row o later after) → SoFar g first (made + 1) next came_to after
     one_made {next} {call} {came_to} {after} answer acted audited reconciled =
         let e : Exchange = record { told = telling outcome account; call = call } in
@@ -85,7 +89,9 @@ module _ {C : Type 0} (answers : C → List Meaning → Told → C → Option Ca
         }
 
     -- the run ends here
-    pub ended : {most : ℕ} {last : C} {untold : Option Outcome} {before : Option Account} → first_no (opening_asked (length row) before g) ≡ None → Ends answers row client (telling outcome account) last made most untold → Audited → Run answers row g most first last untold before account
+    pub ended : {most : ℕ} {last : C} {untold : Option Outcome} {before : Option Account}
+        → first_no (opening_asked (length row) before g) ≡ None → Ends answers row client (telling outcome account) last made most untold
+        → Audited → Run answers row g most first last untold before account
     ended {most} {last} {untold} asked ends audited = record {
       asked = asked;
       exchanges = so_far.exchanges;

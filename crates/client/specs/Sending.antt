@@ -15,7 +15,8 @@ next_sent client next (Some (Enter file)) sends = refl
 next_sent client next (Some call) sends = absurd sends
 
 -- its next call sends the duty that it is handed, and no other
-pub prompt_sends_on : (client : Prompt) (outcome : Outcome) (next : Prompt) (call : Option Call) → GoesOn client outcome next call → sent call ≡ handed outcome
+pub prompt_sends_on : (client : Prompt) (outcome : Outcome) (next : Prompt) (call : Option Call) → GoesOn client outcome next call
+    → sent call ≡ handed outcome
 prompt_sends_on client (Entered marks answer duty) next call goes = ap sent goes.1
 prompt_sends_on client (Returned returned) next call goes = ap sent goes.1
 prompt_sends_on client outcome next call goes = next_sent client next call goes

@@ -16,14 +16,16 @@ use Rattle.clientcases.specs.Covering.{is_of, pending, Covered}
 
 -- marking the month of a duty takes no more from what is pending than the duty
 
-marked_covers : (mark : Mark) (a : Account) (d : Duty) → is_owed (Some a) d ≡ true → (book month : ℕ) → pending book month (Some a) ≤ is_of book month d + pending book month (Some (marked mark d.month a))
+marked_covers : (mark : Mark) (a : Account) (d : Duty) → is_owed (Some a) d ≡ true → (book month : ℕ)
+    → pending book month (Some a) ≤ is_of book month d + pending book month (Some (marked mark d.month a))
 marked_covers mark a d owed book month =
     let number : (d.book == a.number) ≡ true = (and_parts (d.book == a.number) (pends (of_month a.records d.month)) owed).0 in
     let other = of_other_month (λ r. record r { mark = mark }) a.records d.month month in
     grind (arith, nat_tests)
 
 -- so does spending it
-pub spent_covers : (mark : Mark) (before after : Option Account) (d : Duty) → Spent before after d mark → (book month : ℕ) → pending book month before ≤ is_of book month d + pending book month after
+pub spent_covers : (mark : Mark) (before after : Option Account) (d : Duty) → Spent before after d mark → (book month : ℕ)
+    → pending book month before ≤ is_of book month d + pending book month after
 spent_covers mark None after d spent book month = absurd (false≢true (all_yes (duty_asked None d) spent.asked).0)
 spent_covers mark (Some a) after d spent book month =
     subst (λ b. pending book month (Some a) ≤ is_of book month d + pending book month b) (sym spent.book) (marked_covers mark a d (all_yes (duty_asked (Some a) d) spent.asked).0 book month)
@@ -47,7 +49,8 @@ returned_pends {account = None} returned = refl
 returned_pends {account = Some a} {d = d} returned = none_pending (is_owed (Some a) d) _ _ returned.first
 
 -- so not both books refuse one that is covered
-pub not_both : {one other : Option Account} {d : Duty} {e f : ReturnedDuty} → Covered (d ∷ []) one other → Returned one d e → Returned other e.duty f → ⊥
+pub not_both : {one other : Option Account} {d : Duty} {e f : ReturnedDuty} → Covered (d ∷ []) one other → Returned one d e
+    → Returned other e.duty f → ⊥
 not_both {one = one} {other = other} {d = d} {e = e} {f = f} covered here there =
     let again : Returned other d f = subst (λ x. Returned other x f) here.same there in
     let whole : is_of d.book d.month d ≡ 1 = grind (arith, nat_tests) in

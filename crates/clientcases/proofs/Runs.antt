@@ -1,5 +1,6 @@
 -- A run leaves no more duties than pending months.
-use Rattle.std.proofs.Common.{◌≡◌, ℕ, zero, suc, ◌+◌, ◌≤◌, true, ◌==◌, ◌&&◌, if◌then◌else◌, List, [], ◌∷◌, ◌++◌, length, Option, Some, None, refl, ap, sym, ◌∙◌, subst, arith}
+use Rattle.std.proofs.Common.{◌≡◌, ℕ, zero, suc, ◌+◌, ◌≤◌, true, ◌==◌, ◌&&◌, if◌then◌else◌, List, [], ◌∷◌, ◌++◌, length, Option, Some, None}
+use Rattle.std.proofs.Common.{refl, ap, sym, ◌∙◌, subst, arith}
 use Rattle.std.proofs.lemmas.Bool.{false≢true}
 use Rattle.std.proofs.lemmas.Bool.Decides.{nat_tests}
 use Rattle.std.proofs.lemmas.List.{length_push, length-map}
@@ -61,7 +62,8 @@ pends_before rs r n p = ap pends (of_month_before rs (r ∷ []) n (pends_within 
 pends_added : (rs : List Record) (r : Record) → r.mark ≡ Pending → pends (of_month (rs ++ r ∷ []) (length rs + 1)) ≡ true
 pends_added rs r is = ap pends (of_month_added rs r) ∙ ap is_pending is
 
-added_covers : (rs : List Record) (r : Record) (number : ℕ) (d : Duty) → r.mark ≡ Pending → d.book ≡ number → d.month ≡ length rs + 1 → (book month : ℕ)
+added_covers : (rs : List Record) (r : Record) (number : ℕ) (d : Duty) → r.mark ≡ Pending → d.book ≡ number → d.month ≡ length rs + 1
+    → (book month : ℕ)
     → is_of book month d + (if book == number && pends (of_month rs month) then 1 else 0) ≤ (if book == number && pends (of_month (rs ++ r ∷ []) month) then 1 else 0)
 added_covers rs r number d is of_book of_month book month =
     let within = pends_within rs month in
@@ -74,7 +76,8 @@ abbrev entered_record : List Meaning → Account → Figures → Record
 entered_record row a m = let answer = answer_to row a m in record { closing = answer.closing; mark = Pending; standing = answer.standing }
 
 -- entering
-entered_conserves : (row : List Meaning) (before after : Option Account) (file : List ℕ) (outcome : Outcome) → EntryActed row before file outcome after → Recorded before → Conserves [] outcome before after
+entered_conserves : (row : List Meaning) (before after : Option Account) (file : List ℕ) (outcome : Outcome)
+    → EntryActed row before file outcome after → Recorded before → Conserves [] outcome before after
 entered_conserves row before after file (Entered marks answer d) acted recorded =
     let e = acted.1 in
     let a = e.account in
@@ -91,7 +94,8 @@ entered_conserves row before after file (Refused fault) acted recorded =
 entered_conserves row before after file outcome acted recorded = absurd acted
 
 -- amending
-kept_pending : (month : ℕ) (before after : Option Account) → AmendmentKeepsBook month before after → Recorded before → Recorded after × ((book m : ℕ) → pending book m before ≤ pending book m after)
+kept_pending : (month : ℕ) (before after : Option Account) → AmendmentKeepsBook month before after → Recorded before
+    → Recorded after × ((book m : ℕ) → pending book m before ≤ pending book m after)
 kept_pending month None after keeps recorded = absurd keeps
 kept_pending month (Some a) None keeps recorded = absurd keeps
 kept_pending month (Some a) (Some b) keeps recorded =
@@ -103,7 +107,8 @@ kept_pending month (Some a) (Some b) keeps recorded =
           grind (arith, nat_tests),
     )
 
-amended_conserves : (row : List Meaning) (before after : Option Account) (file : List ℕ) (outcome : Outcome) → AmendmentActed row before file outcome after → Recorded before → Conserves [] outcome before after
+amended_conserves : (row : List Meaning) (before after : Option Account) (file : List ℕ) (outcome : Outcome)
+    → AmendmentActed row before file outcome after → Recorded before → Conserves [] outcome before after
 amended_conserves row before after file (Amended marks answer month) acted recorded =
     let kept = kept_pending month before after (amended_keeps row before after file (answered answer) month acted.1) recorded in
     record { recorded = kept.0; covers = λ book m. omega (arith, kept.1 book m) }
@@ -117,7 +122,8 @@ spent_recorded mark None after d spent recorded = subst Recorded (sym spent.book
 spent_recorded mark (Some a) after d spent recorded =
     subst Recorded (sym spent.book) (length_changed (λ r. record r { mark = mark }) d.month a.records ∙ recorded)
 
-duty_conserves : (mark : Mark) (before after : Option Account) (d : Duty) (outcome : Outcome) → DutyActed mark before d outcome after → Recorded before → Conserves (d ∷ []) outcome before after
+duty_conserves : (mark : Mark) (before after : Option Account) (d : Duty) (outcome : Outcome) → DutyActed mark before d outcome after
+    → Recorded before → Conserves (d ∷ []) outcome before after
 duty_conserves mark before after d Spent acted recorded = record {
   recorded = spent_recorded mark before after d acted recorded;
   covers = λ book month. omega (arith, spent_covers mark before after d acted book month);
@@ -127,7 +133,8 @@ duty_conserves mark before after d (Returned returned) acted recorded =
     rw (acted.1, same) (record { recorded = recorded; covers = λ book month. omega arith })
 duty_conserves mark before after d outcome acted recorded = absurd acted
 
-call_conserves : (row : List Meaning) (before after : Option Account) (call : Call) (outcome : Outcome) → Acted row before call outcome after → Recorded before → Conserves (sent (Some call)) outcome before after
+call_conserves : (row : List Meaning) (before after : Option Account) (call : Call) (outcome : Outcome)
+    → Acted row before call outcome after → Recorded before → Conserves (sent (Some call)) outcome before after
 call_conserves row before after (Enter file) outcome acted recorded = entered_conserves row before after file.items outcome acted recorded
 call_conserves row before after (Amend file) outcome acted recorded = amended_conserves row before after file.items outcome acted recorded
 call_conserves row before after (File d) outcome acted recorded = duty_conserves Filed before after d outcome acted recorded
@@ -152,7 +159,8 @@ module _ {C : Type 0} (answers : C → List Meaning → Told → C → Option Ca
   Covers told client = (book month : ℕ) → among book month (handed told.outcome) + among book month (keeps client) ≤ pending book month told.account + pending book month other
 
   -- one call after another
-  calls_cover : (client last : C) (es : List Exchange) (final : Told) → Talk answers row client es last → Played row es final → Recorded (first_told es final).account → Covers (first_told es final) client → Covers final last
+  calls_cover : (client last : C) (es : List Exchange) (final : Told) → Talk answers row client es last → Played row es final
+      → Recorded (first_told es final).account → Covers (first_told es final) client → Covers final last
   calls_cover client last [] final talk played recorded covers = subst (Covers final) talk covers
   calls_cover client last (e ∷ es) final talk played recorded covers =
       let next = first_told es final in
@@ -161,7 +169,8 @@ module _ {C : Type 0} (answers : C → List Meaning → Told → C → Option Ca
       let covered : Covers next talk.0 = λ book month. omega (arith, covers book month, made book month, conserves.covers book month) in
       calls_cover talk.0 last es final talk.2 played.1 conserves.recorded covered
 
-  ends_cover : (client last : C) (final : Told) (made most : ℕ) (untold : Option Outcome) → Ends answers row client final last made most untold → Covers final client
+  ends_cover : (client last : C) (final : Told) (made most : ℕ) (untold : Option Outcome)
+      → Ends answers row client final last made most untold → Covers final client
       → (book month : ℕ) → among book month (untold_of untold) + among book month (keeps last) ≤ pending book month final.account + pending book month other
   ends_cover client last final made most (Some told) ends covers book month =
       let is_told = ends.0 in
@@ -171,7 +180,8 @@ module _ {C : Type 0} (answers : C → List Meaning → Told → C → Option Ca
       omega (arith, covers book month, makes_none client row final last None ends.0 book month)
 
   -- after the whole run
-  pub run_covers : {g : Given} {most : ℕ} {first last : C} {untold : Option Outcome} {before after : Option Account} → Run answers row g most first last untold before after → Covered (keeps first) before other
+  pub run_covers : {g : Given} {most : ℕ} {first last : C} {untold : Option Outcome} {before after : Option Account}
+      → Run answers row g most first last untold before after → Covered (keeps first) before other
       → (book month : ℕ) → among book month (untold_of untold) + among book month (keeps last) ≤ pending book month after + pending book month other
   run_covers {g} {most} {first} {last} {untold} {before} {after} ran covered =
       let closed = closed_before (length row) before g ran.asked in
@@ -183,7 +193,8 @@ module _ {C : Type 0} (answers : C → List Meaning → Told → C → Option Ca
       rw (ran.leaves) (ends_cover ran.client last ran.final (length ran.exchanges) most untold ran.ends at_last)
 
   -- the duty that the client is not told of, with the client's own and alone
-  pub untold_covered : {g : Given} {most : ℕ} {first last : C} {untold : Option Outcome} {before after : Option Account} {d : Duty} → Run answers row g most first last untold before after → Covered (keeps first) before other
+  pub untold_covered : {g : Given} {most : ℕ} {first last : C} {untold : Option Outcome} {before after : Option Account} {d : Duty}
+      → Run answers row g most first last untold before after → Covered (keeps first) before other
       → untold_of untold ≡ d ∷ [] → Covered (d ∷ keeps last) after other × Covered (d ∷ []) after other
   untold_covered {last = last} {after = after} {d = d} ran covered is =
       let covers : (book month : ℕ) → among book month (d ∷ []) + among book month (keeps last) ≤ pending book month after + pending book month other = λ book month.

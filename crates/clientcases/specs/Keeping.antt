@@ -27,10 +27,12 @@ sent_as_prompted outstanding None = refl
 sent_as_prompted outstanding (Some call) = sent_spared outstanding call
 
 -- its next call sends the duty that it is handed, and no other
-pub sparing_sends_on : (before : Sparing) (row : List Meaning) (told : Told) (after : Sparing) (call : Option Call) → Spares before row told after call → sent call ≡ handed told.outcome
+pub sparing_sends_on : (before : Sparing) (row : List Meaning) (told : Told) (after : Sparing) (call : Option Call)
+    → Spares before row told after call → sent call ≡ handed told.outcome
 sparing_sends_on before row told after call spares =
     ap sent spares.is_spared ∙ sent_as_prompted (outstanding_told row told.account 0) spares.prompted ∙ prompt_sends_on before.prompt told.outcome after.prompt spares.prompted spares.is_prompted
 
-pub sparing_makes_none : (before : Sparing) (row : List Meaning) (told : Told) (after : Sparing) (call : Option Call) → Spares before row told after call → MakesNone [] told.outcome [] call
+pub sparing_makes_none : (before : Sparing) (row : List Meaning) (told : Told) (after : Sparing) (call : Option Call)
+    → Spares before row told after call → MakesNone [] told.outcome [] call
 sparing_makes_none before row told after call spares book month =
     omega (arith, ap (among book month) (sparing_sends_on before row told after call spares))

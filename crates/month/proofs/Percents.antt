@@ -1,5 +1,6 @@
 -- How large a month's lifeline discount is.
-use Rattle.std.proofs.Common.{◌≡◌, ℕ, ◌+◌, ◌*◌, ◌/◌, ◌<◌, ◌≤◌, ltb, List, [], ◌∷◌, length, get_or, sum_by, sym, refl, ap, ◌∙◌, subst, mul-zero, arith, All}
+use Rattle.std.proofs.Common.{◌≡◌, ℕ, ◌+◌, ◌*◌, ◌/◌, ◌<◌, ◌≤◌, ltb, List, [], ◌∷◌, length, get_or, sum_by, sym, refl, ap, ◌∙◌, subst}
+use Rattle.std.proofs.Common.{mul-zero, arith, All}
 use Rattle.std.proofs.lemmas.Nat.{mul-le}
 use Rattle.std.proofs.lemmas.List.Elements.{All-weaker, All-get_or}
 use Rattle.std.proofs.lemmas.List.Sums.{sum_by-le}
@@ -31,7 +32,8 @@ module _ (s : Sales) (b : Bracket) (rate : s.rate ≤ 1000000) (metering : s.met
 
 module _ (m : Month) where
   -- the bracket at i of a month
-  pub bracket_bounded : (xs : List Bracket) (i : ℕ) (d : Bracket) → xs ≡ (figures m).brackets → i < length xs → BoundedBracket m.within.statement.sales (get_or xs i d)
+  pub bracket_bounded : (xs : List Bracket) (i : ℕ) (d : Bracket) → xs ≡ (figures m).brackets → i < length xs
+      → BoundedBracket m.within.statement.sales (get_or xs i d)
   bracket_bounded xs i d e h =
       let w = (month_valid m).within in
       bounded_bracket m.within.statement.sales (get_or xs i d) w.rate_most w.metering_most (All-get_or BracketWithin xs i d h (subst (All BracketWithin) (sym e) w.brackets))

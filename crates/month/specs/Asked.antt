@@ -2,7 +2,8 @@
 use Rattle.std.specs.Prelude.{ℕ, ◌+◌, ◌*◌, Bool, ◌&&◌, List, [], ◌∷◌, ◌++◌, nat_le, nat_lt}
 use Rattle.std.specs.List.{list_all}
 use Rattle.month.specs.declared.fault.MonthFault.{MonthFault}
-use Rattle.month.specs.declared.fault.MonthFault.TheVariants.{OutsideLimit, PassedOnAboveTaken, CostsTooHigh, CostBelowZero, EnergyInconsistent, SalesInconsistent}
+use Rattle.month.specs.declared.fault.MonthFault.TheVariants.{OutsideLimit, PassedOnAboveTaken, CostsTooHigh, CostBelowZero}
+use Rattle.month.specs.declared.fault.MonthFault.TheVariants.{EnergyInconsistent, SalesInconsistent}
 use Rattle.month.specs.declared.parts.Source.{Source}
 use Rattle.month.specs.declared.parts.Energy.{Energy}
 use Rattle.month.specs.declared.parts.Exempt.{Exempt}

@@ -5,7 +5,8 @@ use Rattle.fields.specs.declared.refusal.Refusal.{Refusal}
 use Rattle.month.specs.declared.fault.FileFault.{FileFault}
 use Rattle.month.specs.declared.fault.FileFault.TheVariants.{Field, GoesOn}
 use Rattle.month.specs.declared.fault.MonthFault.{MonthFault}
-use Rattle.month.specs.declared.fault.MonthFault.TheVariants.{File, OutsideLimit, PassedOnAboveTaken, CostsTooHigh, CostBelowZero, EnergyInconsistent, SalesInconsistent}
+use Rattle.month.specs.declared.fault.MonthFault.TheVariants.{File, OutsideLimit, PassedOnAboveTaken, CostsTooHigh, CostBelowZero}
+use Rattle.month.specs.declared.fault.MonthFault.TheVariants.{EnergyInconsistent, SalesInconsistent}
 use Rattle.month.specs.Tags.{tag_number}
 
 abbrev pub file_refusal : FileFault → Refusal

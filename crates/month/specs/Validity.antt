@@ -1,5 +1,6 @@
 -- Questions 6 to 11 answered yes, and valid figures, are the same.
-use Rattle.std.specs.Prelude.{◌≡◌, ℕ, ◌≤◌, true, false, ◌&&◌, List, [], ◌∷◌, is_some, is_ok, Some, None, Ok, Err, sum_by, Option, Result, MatchResult, nat_le, refl, All}
+use Rattle.std.specs.Prelude.{◌≡◌, ℕ, ◌≤◌, true, false, ◌&&◌, List, [], ◌∷◌, is_some, is_ok, Some, None, Ok, Err, sum_by, Option, Result}
+use Rattle.std.specs.Prelude.{MatchResult, nat_le, refl, All}
 use Rattle.std.proofs.Common.{sym, ◌∙◌, subst, arith}
 use Rattle.std.proofs.lemmas.List.Elements.{All-weaker, All-head, All-tail}
 use Rattle.std.proofs.lemmas.Int.{ints}
@@ -17,7 +18,8 @@ use Rattle.month.specs.declared.parts.Bracket.{Bracket}
 use Rattle.month.specs.declared.statement.Statement.{Statement}
 use Rattle.month.specs.declared.within.WithinLimits.{WithinLimits}
 use Rattle.month.specs.Amounts.{cost_of, taken_of, passed_of, kwh_of}
-use Rattle.month.specs.Asked.{source_within, energy_within, exempt_within, sales_within, bracket_within, passed_on_within, energy_fits, sales_fit, limits_asked, rules_asked, month_asked}
+use Rattle.month.specs.Asked.{source_within, energy_within, exempt_within, sales_within, bracket_within, passed_on_within, energy_fits}
+use Rattle.month.specs.Asked.{sales_fit, limits_asked, rules_asked, month_asked}
 use Rattle.month.specs.Bounds.{Bounded, BoundedSource}
 use Rattle.month.specs.Energies.{energy_size}
 use Rattle.month.specs.Figures.{Figures, Counted}

@@ -34,7 +34,8 @@ blank = record {
 }
 
 module _ (file : List ℕ) where
-  told_too : (f : Figures) (e : MonthFault) → first_no (asked file f) ≡ Some e → first_no (carried month_refusal (asked file f)) ≡ Some (month_refusal e)
+  told_too : (f : Figures) (e : MonthFault) → first_no (asked file f) ≡ Some e
+      → first_no (carried month_refusal (asked file f)) ≡ Some (month_refusal e)
   told_too f e is = carried_some month_refusal (asked file f) e is
 
   pub refused_file : (e : FileFault) → first_no (file_asked file) ≡ Some e → Refused file (File e)
@@ -57,7 +58,8 @@ module _ (file : List ℕ) where
       record { valid = subst Valid same made.valid; is = is ∙ ap file_of same }
 
   -- the file of valid figures is read as those figures
-  pub valid_file : (r : Result Month MonthFault) → MatchResult r (λ m. Accepted file m) (λ e. Refused file e) → (f : Figures) → Valid f → file ≡ file_of f → MatchResult r (λ m. figures m ≡ f) (λ e. ⊥)
+  pub valid_file : (r : Result Month MonthFault) → MatchResult r (λ m. Accepted file m) (λ e. Refused file e) → (f : Figures) → Valid f
+      → file ≡ file_of f → MatchResult r (λ m. figures m ≡ f) (λ e. ⊥)
   valid_file (Ok m) accepted f valid is = file_same (figures m) f (sym accepted.is ∙ is)
   valid_file (Err e) refused f valid is =
       let none = asked_none file f valid.counted is in
@@ -65,7 +67,8 @@ module _ (file : List ℕ) where
       some_none (sym refused.first ∙ past_file refused.asked_of none ∙ ap (λ g. first_no (month_asked g)) same ∙ yes_from_valid f valid)
 
   -- the first question of the month answered no comes back as it is
-  pub month_fault : (r : Result Month MonthFault) → MatchResult r (λ m. Accepted file m) (λ e. Refused file e) → (f : Figures) (e : MonthFault) → States file f → first_no (month_asked f) ≡ Some e → r ≡ Err e
+  pub month_fault : (r : Result Month MonthFault) → MatchResult r (λ m. Accepted file m) (λ e. Refused file e)
+      → (f : Figures) (e : MonthFault) → States file f → first_no (month_asked f) ≡ Some e → r ≡ Err e
   month_fault (Ok m) accepted f e states is =
       let same = file_same (figures m) f (sym accepted.is ∙ states.is) in
       absurd (some_none (sym is ∙ ap (λ g. first_no (month_asked g)) (sym same) ∙ yes_from_valid (figures m) accepted.valid))
@@ -77,7 +80,8 @@ module _ (file : List ℕ) where
       ap (λ x. Err x) whole
 
   -- and so does the first question of the file, inside a fault of the month
-  pub file_fault : (r : Result Month MonthFault) → MatchResult r (λ m. Accepted file m) (λ e. Refused file e) → (e : FileFault) → first_no (file_asked file) ≡ Some e → r ≡ Err (File e)
+  pub file_fault : (r : Result Month MonthFault) → MatchResult r (λ m. Accepted file m) (λ e. Refused file e) → (e : FileFault)
+      → first_no (file_asked file) ≡ Some e → r ≡ Err (File e)
   file_fault (Ok m) accepted e is = absurd (some_none (sym is ∙ asked_none file (figures m) accepted.valid.counted accepted.is))
   file_fault (Err d) refused e is =
       let told : Some d ≡ Some (File e) = sym refused.first ∙ first_no_stop (carried File (file_asked file)) (month_asked refused.asked_of) (File e) (carried_some File (file_asked file) e is) in

@@ -1,6 +1,8 @@
 -- A reader that passes from field to field of a month file.
-use Rattle.std.proofs.Common.{◌≡◌, ℕ, zero, suc, ◌+◌, ◌<◌, ◌≤◌, true, false, eqb, ◌≢◌, List, [], ◌∷◌, ◌++◌, map, length, get_or, take, drop, set, Some, None, sym, refl, ap, ◌∙◌, subst, append_assoc, append-nil, arith, Bor, below_more}
-use Rattle.std.proofs.lemmas.List.{drop_all, take_all, take_more_set, drop_more, length-set, length-take-le, get_or-set_same, get_or-set_other, get_or-map, length-map}
+use Rattle.std.proofs.Common.{◌≡◌, ℕ, zero, suc, ◌+◌, ◌<◌, ◌≤◌, true, false, eqb, ◌≢◌, List, [], ◌∷◌, ◌++◌, map, length, get_or, take, drop}
+use Rattle.std.proofs.Common.{set, Some, None, sym, refl, ap, ◌∙◌, subst, append_assoc, append-nil, arith, Bor, below_more}
+use Rattle.std.proofs.lemmas.List.{drop_all, take_all, take_more_set, drop_more, length-set, length-take-le, get_or-set_same}
+use Rattle.std.proofs.lemmas.List.{get_or-set_other, get_or-map, length-map}
 use Rattle.std.proofs.lemmas.Bool.{eqb-true}
 use Rattle.fields.specs.declared.due.Due.{Due}
 use Rattle.fields.specs.declared.fault.FieldFault.{FieldFault}
@@ -24,7 +26,8 @@ pub record Progress (file : List ℕ) (values : List (List ℕ)) (i : ℕ) (byte
   pub asked : first_no (file_asked file) ≡ first_no (asked_from file at (drop i dues))
   pub parts : (k : ℕ) → k < i → Parts (get_or dues k no_due) (length (get_or values k []))
 
-pub begin : (file : List ℕ) (values : List (List ℕ)) (bytes : List ℕ) (at : ℕ) → length values ≡ 7 → bytes ≡ file → at ≡ 0 → Progress file values 0 bytes at
+pub begin : (file : List ℕ) (values : List (List ℕ)) (bytes : List ℕ) (at : ℕ) → length values ≡ 7 → bytes ≡ file → at ≡ 0
+    → Progress file values 0 bytes at
 begin file values bytes at seven same none = record {
   seven = seven;
   same = same;
@@ -56,7 +59,8 @@ module _ {file : List ℕ} {values : List (List ℕ)} {i : ℕ} {bytes : List �
     left : first_no (asked_from file at (drop i dues)) ≡ first_no (carried Field (field_asked file at (get_or dues i no_due)) ++ asked_from file (at + 3 + size_at file at) (drop (i + 1) dues))
     left = ap (λ ds. first_no (asked_from file at ds)) (drop_more dues i no_due h)
 
-    pub pass : {at' : ℕ} {bytes' value : List ℕ} → FieldAt bytes at at' (get_or dues i no_due) value → bytes' ≡ bytes → Progress file (set values i value) (i + 1) bytes' at'
+    pub pass : {at' : ℕ} {bytes' value : List ℕ} → FieldAt bytes at at' (get_or dues i no_due) value → bytes' ≡ bytes
+        → Progress file (set values i value) (i + 1) bytes' at'
     pass {at'} {bytes'} {value} took kept =
         let d = get_or dues i no_due in
         let t = subst (λ b. FieldAt b at at' d value) s.same took in
@@ -96,7 +100,8 @@ module _ {file : List ℕ} {values : List (List ℕ)} {i : ℕ} {bytes : List �
         s.read ∙ ap (λ l. fields_of 1 (take i values) ++ l) (drop_all at file (omega arith)) ∙ append-nil (fields_of 1 (take i values)) ∙ ap (fields_of 1) (take_all i values (omega (arith, s.seven)))
 
 -- seven values, one by one
-seven_of : (vs : List (List ℕ)) → length vs ≡ 7 → vs ≡ get_or vs 0 [] ∷ get_or vs 1 [] ∷ get_or vs 2 [] ∷ get_or vs 3 [] ∷ get_or vs 4 [] ∷ get_or vs 5 [] ∷ get_or vs 6 [] ∷ []
+seven_of : (vs : List (List ℕ)) → length vs ≡ 7
+    → vs ≡ get_or vs 0 [] ∷ get_or vs 1 [] ∷ get_or vs 2 [] ∷ get_or vs 3 [] ∷ get_or vs 4 [] ∷ get_or vs 5 [] ∷ get_or vs 6 [] ∷ []
 seven_of vs long =
     let one = drop_more vs 0 [] (omega arith) in
     let two = drop_more vs 1 [] (omega arith) in
@@ -113,7 +118,9 @@ module _ {file : List ℕ} {values : List (List ℕ)} {i : ℕ} {bytes : List �
   parts_at : (k : ℕ) (v : List ℕ) → v ≡ get_or values k [] → k < 7 → Parts (get_or dues k no_due) (length v)
   parts_at k v is h = subst (λ w. Parts (get_or dues k no_due) (length w)) (sym is) (s.parts k (omega arith))
 
-  pub made_of : {month sources pilferage transmission energy brackets sales : List ℕ} → month ≡ get_or values 0 [] → sources ≡ get_or values 1 [] → pilferage ≡ get_or values 2 [] → transmission ≡ get_or values 3 [] → energy ≡ get_or values 4 [] → brackets ≡ get_or values 5 [] → sales ≡ get_or values 6 [] → MadeOf file month sources pilferage transmission energy brackets sales
+  pub made_of : {month sources pilferage transmission energy brackets sales : List ℕ} → month ≡ get_or values 0 []
+      → sources ≡ get_or values 1 [] → pilferage ≡ get_or values 2 [] → transmission ≡ get_or values 3 [] → energy ≡ get_or values 4 []
+      → brackets ≡ get_or values 5 [] → sales ≡ get_or values 6 [] → MadeOf file month sources pilferage transmission energy brackets sales
   made_of {month} {sources} {pilferage} {transmission} {energy} {brackets} {sales} is_month is_sources is_pilferage is_transmission is_energy is_brackets is_sales =
       let all = seven_of values s.seven in
       let same : values ≡ month ∷ sources ∷ pilferage ∷ transmission ∷ energy ∷ brackets ∷ sales ∷ [] = cc in
@@ -139,5 +146,6 @@ module _ {file : List ℕ} {values : List (List ℕ)} {i : ℕ} {bytes : List �
       }
 
 -- what stands at k behind a reference
-pub value_at : (refs : List (Bor (List ℕ))) (k : ℕ) (d : Bor (List ℕ)) → length (map (λ r. r.now) refs) ≡ 7 → k < 7 → (get_or refs k d).now ≡ get_or (map (λ r. r.now) refs) k []
+pub value_at : (refs : List (Bor (List ℕ))) (k : ℕ) (d : Bor (List ℕ)) → length (map (λ r. r.now) refs) ≡ 7 → k < 7
+    → (get_or refs k d).now ≡ get_or (map (λ r. r.now) refs) k []
 value_at refs k d seven h = sym (get_or-map (λ r. r.now) refs k d [] (omega (arith, length-map refs (λ r. r.now))))

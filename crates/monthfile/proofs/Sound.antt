@@ -22,7 +22,8 @@ Allowed tag [] (v ∷ vs) = ⊥
 Allowed tag (d ∷ ds) [] = ⊥
 Allowed tag (d ∷ ds) (v ∷ vs) = (d.tag ≡ tag) × Parts d (length v) × Allowed (tag + 1) ds vs
 
-all_there : (file pre : List ℕ) (tag : ℕ) (ds : List Due) (vs : List (List ℕ)) → Allowed tag ds vs → file ≡ pre ++ fields_of tag vs → first_no (asked_from file (length pre) ds) ≡ None
+all_there : (file pre : List ℕ) (tag : ℕ) (ds : List Due) (vs : List (List ℕ)) → Allowed tag ds vs → file ≡ pre ++ fields_of tag vs
+    → first_no (asked_from file (length pre) ds) ≡ None
 all_there file pre tag [] [] h is = rw (eq-eqb (length pre) (length file) (sym (ap length (is ∙ append-nil pre))))
 all_there file pre tag [] (v ∷ vs) h is = absurd h
 all_there file pre tag (d ∷ ds) [] h is = absurd h

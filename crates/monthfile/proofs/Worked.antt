@@ -113,7 +113,8 @@ abbrev told : List (Bool × MonthFault) → List (ℕ × ℕ)
 told [] = []
 told (q ∷ qs) = ((month_refusal q.1).number, (month_refusal q.1).place) ∷ told qs
 
-month_questions : (f : Figures) → told (month_asked f) ≡ (6, 1) ∷ (6, 2) ∷ (6, 3) ∷ (6, 4) ∷ (6, 5) ∷ (6, 6) ∷ (6, 7) ∷ (7, 2) ∷ (7, 4) ∷ (8, 2) ∷ (9, 2) ∷ (9, 4) ∷ (10, 5) ∷ (11, 7) ∷ []
+month_questions : (f : Figures)
+    → told (month_asked f) ≡ (6, 1) ∷ (6, 2) ∷ (6, 3) ∷ (6, 4) ∷ (6, 5) ∷ (6, 6) ∷ (6, 7) ∷ (7, 2) ∷ (7, 4) ∷ (8, 2) ∷ (9, 2) ∷ (9, 4) ∷ (10, 5) ∷ (11, 7) ∷ []
 month_questions f = refl
 
 field_questions : (bs : List ℕ) (p : ℕ) (d : Due) → told (carried (λ e. File (Field e)) (field_asked bs p d)) ≡ (1, p) ∷ (2, p) ∷ (3, p) ∷ (4, p) ∷ []

@@ -22,12 +22,14 @@ abbrev filed : Record → Record
 filed r = record r { mark = Filed }
 
 -- a record that pends has the mark once it is filed
-filed_at : (rs : List Record) (place : ℕ) → pends (slice_get rs place) ≡ true → option_map (λ r. r.mark) (slice_get (changed_at filed place rs) place) ≡ Some Filed
+filed_at : (rs : List Record) (place : ℕ) → pends (slice_get rs place) ≡ true
+    → option_map (λ r. r.mark) (slice_get (changed_at filed place rs) place) ≡ Some Filed
 filed_at [] place pending = absurd (false≢true pending)
 filed_at (r ∷ rs) zero pending = refl
 filed_at (r ∷ rs) (suc place) pending = filed_at rs place pending
 
-filed_of : (rs : List Record) (month : ℕ) → pends (of_month rs month) ≡ true → option_map (λ r. r.mark) (of_month (changed_month filed month rs) month) ≡ Some Filed
+filed_of : (rs : List Record) (month : ℕ) → pends (of_month rs month) ≡ true
+    → option_map (λ r. r.mark) (of_month (changed_month filed month rs) month) ≡ Some Filed
 filed_of rs zero pending = absurd (false≢true pending)
 filed_of rs (suc place) pending = filed_at rs place pending
 
@@ -44,7 +46,8 @@ entered_is_filed {before} {after} by told with is =
     ap (λ m. mark_told after.account m) same ∙ spent_is_filed by.entered after.account by.duty by.files
 
 -- an entry leaves none pending where none was
-pub entry_leaves_none : {before after : State} {file : List ℕ} {month : ℕ} {answer : Answer} → EntersBy before file month answer after → NonePending before.account → NonePending after.account
+pub entry_leaves_none : {before after : State} {file : List ℕ} {month : ℕ} {answer : Answer} → EntersBy before file month answer after
+    → NonePending before.account → NonePending after.account
 entry_leaves_none {before} {after} by none =
     let a = with_month before.charges by.enters.account by.enters.stated in
     let spent : Spent (Some a) after.account by.duty Filed = subst (λ (x : Option Account). Spent x after.account by.duty Filed) by.enters.book by.files in

@@ -1,5 +1,6 @@
 -- A run has one output.
-use Rattle.std.proofs.Common.{◌≡◌, ℕ, ◌++◌, List, [], ◌∷◌, length, Option, Some, None, Result, Ok, Err, MatchResult, refl, ap, sym, ◌∙◌, subst, ◌⊎◌, inl, inr, arith, append_assoc}
+use Rattle.std.proofs.Common.{◌≡◌, ℕ, ◌++◌, List, [], ◌∷◌, length, Option, Some, None, Result, Ok, Err, MatchResult, refl, ap, sym, ◌∙◌}
+use Rattle.std.proofs.Common.{subst, ◌⊎◌, inl, inr, arith, append_assoc}
 use Rattle.std.specs.List.{All, flat_map}
 use Rattle.std.proofs.lemmas.List.Elements.{All-head, All-tail}
 use Rattle.book.specs.Account.{Account}
@@ -46,21 +47,26 @@ pub record Same (x y : Line) (a b : State) : Type 0 where
 
 module _ (kind : PostingKind) (row : List Meaning) (account : Option Account) (file : List ℕ) where
   -- where one of questions 1 to 5 is answered no, the fault is the file's, whatever figures the others are asked of
-  fault_of_file : (x : FileFault) (f : Figures) (d : BookFault) → first_no (file_asked file) ≡ Some x → first_no (all_asked kind row account file f) ≡ Some d → Month (File x) ≡ d
+  fault_of_file : (x : FileFault) (f : Figures) (d : BookFault) → first_no (file_asked file) ≡ Some x
+      → first_no (all_asked kind row account file f) ≡ Some d → Month (File x) ≡ d
   fault_of_file x f d is first =
       let month = first_no_stop (carried File (file_asked file)) (month_asked f) (File x) (carried_some File (file_asked file) x is) in
       let whole = first_no_stop (carried Month (asked file f)) (posting_asked kind row account f) (Month (File x)) (carried_some Month (asked file f) (File x) month) in
       some_same (sym whole ∙ first)
 
   -- and where none is, the others are asked of the figures that the file states
-  fault_same : (o : Option FileFault) (d e : BookFault) → first_no (file_asked file) ≡ o → PostingRefused kind row account file d → PostingRefused kind row account file e → d ≡ e
+  fault_same : (o : Option FileFault) (d e : BookFault) → first_no (file_asked file) ≡ o → PostingRefused kind row account file d
+      → PostingRefused kind row account file e → d ≡ e
   fault_same None d e is r s =
       let same = file_same r.asked_of s.asked_of (sym (r.states is).is ∙ (s.states is).is) in
       some_same (sym r.first ∙ ap (λ f. first_no (all_asked kind row account file f)) same ∙ s.first)
   fault_same (Some x) d e is r s = sym (fault_of_file x r.asked_of d is r.first) ∙ fault_of_file x s.asked_of e is s.first
 
 -- a posting that is refused is refused with one fault
-refused_once : (kind : PostingKind) (told : Call) (before : State) (file : List ℕ) (x y : Line) (a b : State) (d e : BookFault) → x ≡ line.Refused told (book_refusal d) → y ≡ line.Refused told (book_refusal e) → PostingRefused kind before.charges before.account file d → PostingRefused kind before.charges before.account file e → a ≡ before → b ≡ before → Same x y a b
+refused_once : (kind : PostingKind) (told : Call) (before : State) (file : List ℕ) (x y : Line) (a b : State) (d e : BookFault)
+    → x ≡ line.Refused told (book_refusal d) → y ≡ line.Refused told (book_refusal e)
+    → PostingRefused kind before.charges before.account file d → PostingRefused kind before.charges before.account file e → a ≡ before
+    → b ≡ before → Same x y a b
 refused_once kind told before file x y a b d e p q r s same_a same_b =
     let fault : d ≡ e = fault_same kind before.charges before.account file (first_no (file_asked file)) d e refl r s in
     let lines : x ≡ y = p ∙ ap (λ f. line.Refused told (book_refusal f)) fault ∙ sym q in
@@ -84,7 +90,8 @@ module _ (kind : PostingKind) (told : Call) (before : State) (file : List ℕ) (
   posting_once x y a b (inr p) (inr q) = refused_once kind told before file x y a b p.0 q.0 p.1 q.1 p.2.refuses q.2.refuses p.2.same q.2.same
 
 module _ (before : State) (file : List ℕ) where
-  entered_once : (m n : ℕ) (x y : Answer) (a b : State) → EntersBy before file m x a → EntersBy before file n y b → Same (line.Entered m x) (line.Entered n y) a b
+  entered_once : (m n : ℕ) (x y : Answer) (a b : State) → EntersBy before file m x a → EntersBy before file n y b
+      → Same (line.Entered m x) (line.Entered n y) a b
   entered_once m n x y a b p q =
       let stated : p.enters.stated ≡ q.enters.stated = file_same _ _ (sym p.enters.file_states ∙ q.enters.file_states) in
       let account : p.enters.account ≡ q.enters.account = some_same (sym p.enters.open_before ∙ q.enters.open_before) in
@@ -99,7 +106,8 @@ module _ (before : State) (file : List ℕ) where
         state = λ i. record { charges = row i; account = held i };
       }
 
-  amended_once : (m n : ℕ) (x y : Answer) (a b : State) → AmendsBy before file m x a → AmendsBy before file n y b → Same (line.Amended m x) (line.Amended n y) a b
+  amended_once : (m n : ℕ) (x y : Answer) (a b : State) → AmendsBy before file m x a → AmendsBy before file n y b
+      → Same (line.Amended m x) (line.Amended n y) a b
   amended_once m n x y a b p q =
       let stated : p.amends.stated ≡ q.amends.stated = file_same _ _ (sym p.amends.file_states ∙ q.amends.file_states) in
       let account : p.amends.account ≡ q.amends.account = some_same (sym p.amends.open_before ∙ q.amends.open_before) in
@@ -112,10 +120,12 @@ module _ (before : State) (file : List ℕ) where
         state = λ i. record { charges = row i; account = held i };
       }
 
-  entered_not_refused : (m : ℕ) (x : Answer) (a : State) (d : BookFault) → EntersBy before file m x a → PostingRefused Entry before.charges before.account file d → ⊥
+  entered_not_refused : (m : ℕ) (x : Answer) (a : State) (d : BookFault) → EntersBy before file m x a
+      → PostingRefused Entry before.charges before.account file d → ⊥
   entered_not_refused m x a d p r = none_refused Entry before.charges before.account file p.enters.stated d p.enters.valid p.enters.file_states p.enters.asked r
 
-  amended_not_refused : (m : ℕ) (x : Answer) (a : State) (d : BookFault) → AmendsBy before file m x a → PostingRefused Amendment before.charges before.account file d → ⊥
+  amended_not_refused : (m : ℕ) (x : Answer) (a : State) (d : BookFault) → AmendsBy before file m x a
+      → PostingRefused Amendment before.charges before.account file d → ⊥
   amended_not_refused m x a d p r = none_refused Amendment before.charges before.account file p.amends.stated d p.amends.valid p.amends.file_states p.amends.asked r
 
   entry_once : (x y : Line) (a b : State) → Works before (Enters file) x a → Works before (Enters file) y b → Same x y a b
@@ -124,7 +134,8 @@ module _ (before : State) (file : List ℕ) where
   amendment_once : (x y : Line) (a b : State) → Works before (Amends file) x a → Works before (Amends file) y b → Same x y a b
   amendment_once = posting_once Amendment call.Amendment before file line.Amended (AmendsBy before file) amended_once amended_not_refused
 
-opening_once : (before : State) (k : ℕ) (g : Given) (x y : Line) (a b : State) → Works before (Opens k g) x a → Works before (Opens k g) y b → Same x y a b
+opening_once : (before : State) (k : ℕ) (g : Given) (x y : Line) (a b : State) → Works before (Opens k g) x a → Works before (Opens k g) y b
+    → Same x y a b
 opening_once before k g x y a b (inl p) (inl q) = record { line = ap line_bytes (p.0 ∙ sym q.0); state = p.1.book ∙ sym q.1.book }
 opening_once before k g x y a b (inl p) (inr q) = absurd (some_none (sym q.2.first ∙ p.1.asked))
 opening_once before k g x y a b (inr p) (inl q) = absurd (some_none (sym p.2.first ∙ q.1.asked))
@@ -171,7 +182,9 @@ pub record SameRun (xs ys : List Exchange) (r s : List ℕ) (a b : State) : Type
   pub state : a ≡ b
 
 -- the bytes tell the frames one after another, until none is next
-works_all_once : (before : State) (xs ys : List Exchange) (r s : List ℕ) (a b : State) → All (λ x. WellFormed x.frame) xs → All (λ x. WellFormed x.frame) ys → NoFrameNext r → NoFrameNext s → frames_of xs ++ r ≡ frames_of ys ++ s → WorksAll before xs a → WorksAll before ys b → SameRun xs ys r s a b
+works_all_once : (before : State) (xs ys : List Exchange) (r s : List ℕ) (a b : State) → All (λ x. WellFormed x.frame) xs
+    → All (λ x. WellFormed x.frame) ys → NoFrameNext r → NoFrameNext s → frames_of xs ++ r ≡ frames_of ys ++ s → WorksAll before xs a
+    → WorksAll before ys b → SameRun xs ys r s a b
 works_all_once before [] [] r s a b f g m n e p q = record { lines = refl; rest = e; state = p ∙ sym q }
 works_all_once before [] (y ∷ ys) r s a b f g m n e p q = absurd (m y.frame (frames_of ys ++ s) (All-head (λ (x : Exchange). WellFormed x.frame) y ys g) (e ∙ append_assoc (frame_bytes y.frame) (frames_of ys) s))
 works_all_once before (x ∷ xs) [] r s a b f g m n e p q = absurd (n x.frame (frames_of xs ++ r) (All-head (λ (x : Exchange). WellFormed x.frame) x xs f) (sym e ∙ append_assoc (frame_bytes x.frame) (frames_of xs) r))
@@ -185,14 +198,16 @@ works_all_once before (x ∷ xs) (y ∷ ys) r s a b f g m n e p q =
     record { lines = λ i. once.line i ++ rest.lines i; rest = rest.rest; state = rest.state }
 
 -- the input and the book settle the output and the state that the book is left in
-pub printed_once : (before : State) (input old new out : List ℕ) (a b : State) → Printed before input old new a → Printed before input old out b → (new ≡ out) × (a ≡ b)
+pub printed_once : (before : State) (input old new out : List ℕ) (a b : State) → Printed before input old new a
+    → Printed before input old out b → (new ≡ out) × (a ≡ b)
 printed_once before input old new out a b p q =
     let same = works_all_once before p.exchanges q.exchanges p.rest q.rest a b p.worked.formed q.worked.formed (no_frame_next input p.rest p.last p.ends) (no_frame_next input q.rest q.last q.ends) (sym p.worked.split ∙ q.worked.split) p.worked.works q.worked.works in
     let last : p.last ≡ q.last = last_once input q.rest p.last q.last (subst (λ (l : List ℕ). Ends input l p.last) same.rest p.ends) q.ends in
     (p.output ∙ (λ i. old ++ (same.lines i ++ last i)) ∙ sym q.output, same.state)
 
 -- the lines of a run begin with those of fewer of its frames
-lines_begin : (before : State) (xs ys : List Exchange) (r s : List ℕ) (a b : State) → All (λ x. WellFormed x.frame) xs → All (λ x. WellFormed x.frame) ys → NoFrameNext s → frames_of xs ++ r ≡ frames_of ys ++ s → WorksAll before xs a → WorksAll before ys b
+lines_begin : (before : State) (xs ys : List Exchange) (r s : List ℕ) (a b : State) → All (λ x. WellFormed x.frame) xs
+    → All (λ x. WellFormed x.frame) ys → NoFrameNext s → frames_of xs ++ r ≡ frames_of ys ++ s → WorksAll before xs a → WorksAll before ys b
     → (later : List ℕ) × (lines_of ys ≡ lines_of xs ++ later)
 lines_begin before [] ys r s a b f g n e p q = (lines_of ys, refl)
 lines_begin before (x ∷ xs) [] r s a b f g n e p q = absurd (n x.frame (frames_of xs ++ r) (All-head (λ (x : Exchange). WellFormed x.frame) x xs f) (sym e ∙ append_assoc (frame_bytes x.frame) (frames_of xs) r))
@@ -216,7 +231,8 @@ module _ (before : State) (input : List ℕ) (room : ℕ) (old new out : List �
       (later, whole.output ∙ ap (λ l. old ++ l) same ∙ sym (append_assoc old (lines_of broken.exchanges) later) ∙ ap (λ l. l ++ later) (sym broken.output))
 
 -- the same of a run that may break off
-pub once_where_printed : {E : Type 0} (before : State) (input : List ℕ) (room : ℕ) (old new : List ℕ) (a : State) (ran : Result Unit E) → MatchResult ran (λ _. Printed before input old new a) (λ _. LacksRoom before input room old new a)
+pub once_where_printed : {E : Type 0} (before : State) (input : List ℕ) (room : ℕ) (old new : List ℕ) (a : State) (ran : Result Unit E)
+    → MatchResult ran (λ _. Printed before input old new a) (λ _. LacksRoom before input room old new a)
     → (out : List ℕ) (b : State) → Printed before input old out b → MatchResult ran (λ _. (new ≡ out) × (a ≡ b)) (λ _. (later : List ℕ) × (out ≡ new ++ later))
 once_where_printed before input room old new a (Ok u) printed out b p = printed_once before input old new out a b printed p
 once_where_printed before input room old new a (Err e) broken out b p = begins_whole before input room old new out a b broken p

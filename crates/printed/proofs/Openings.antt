@@ -1,5 +1,6 @@
 -- An opening's numbers in the value that states them.
-use Rattle.std.proofs.Common.{◌≡◌, ℕ, ◌≤◌, List, [], ◌∷◌, length, map, take, drop, ℤ, slice_index_or, Some, None, refl, ap, ◌∙◌, subst, arith, take-append-drop, length-take-le}
+use Rattle.std.proofs.Common.{◌≡◌, ℕ, ◌≤◌, List, [], ◌∷◌, length, map, take, drop, ℤ, slice_index_or, Some, None, refl, ap, ◌∙◌, subst}
+use Rattle.std.proofs.Common.{arith, take-append-drop, length-take-le}
 use Rattle.std.proofs.lemmas.Bool.{le-leb}
 use Rattle.book.specs.Account.{BookState}
 use Rattle.book.specs.Opening.{Given, opening_asked, newly_opened}
@@ -23,7 +24,8 @@ three (a ∷ b ∷ c ∷ []) long = refl
 three (a ∷ b ∷ c ∷ d ∷ ds) long = absurd (omega arith)
 
 -- a value cut after three numbers, and after the starting rates, is that of the numbers which its parts are
-pub value_of_parts : (value terms rates : List ℕ) (balances : List ℤ) → 24 ≤ length value → take 24 value ≡ eights terms → take 32 (drop 24 value) ≡ eights rates → drop 32 (drop 24 value) ≡ eights (map twos_complement balances)
+pub value_of_parts : (value terms rates : List ℕ) (balances : List ℤ) → 24 ≤ length value → take 24 value ≡ eights terms
+    → take 32 (drop 24 value) ≡ eights rates → drop 32 (drop 24 value) ≡ eights (map twos_complement balances)
     → value ≡ opening_value (slice_index_or terms 0 0) (record { spread = slice_index_or terms 1 0; number = slice_index_or terms 2 0; rates = rates; balances = balances })
 value_of_parts value terms rates balances long first second third =
     let count : length terms ≡ 3 = omega (arith, length_eights terms, ap length first, length-take-le 24 value long) in
@@ -33,7 +35,8 @@ value_of_parts value terms rates balances long first second third =
     cc
 
 -- question 15 is answered yes of the cap, and then at places 2 to 6, and the book stands over the charges that were made with the cap
-pub opens_by : (before : State) (book : BookState FourCharges) (cap : ℕ) (g asked_of : Given) (charges : FourCharges) → cap ≤ 5000 → four_charges (cap_of charges) ≡ four_charges cap → asked_of ≡ g
+pub opens_by : (before : State) (book : BookState FourCharges) (cap : ℕ) (g asked_of : Given) (charges : FourCharges) → cap ≤ 5000
+    → four_charges (cap_of charges) ≡ four_charges cap → asked_of ≡ g
     → first_no (opening_asked 4 before.account asked_of) ≡ None → book.account ≡ Some (newly_opened asked_of) → book.schedule ≡ charges → OpensBy before cap g (state_of book)
 opens_by before book cap g asked_of charges limit made same none opened over = record {
   asked =

@@ -27,7 +27,8 @@ balances_same (y ∷ ys) (z ∷ zs) f g e =
     let rest = balances_same ys zs (All-tail (FitsSigned w64) y ys f) (All-tail (FitsSigned w64) z zs g) later in
     cc
 
-opening_same : (k l : ℕ) (g h : Given) → WellFormed (Opens k g) → WellFormed (Opens l h) → opening_value k g ≡ opening_value l h → Opens k g ≡ Opens l h
+opening_same : (k l : ℕ) (g h : Given) → WellFormed (Opens k g) → WellFormed (Opens l h) → opening_value k g ≡ opening_value l h
+    → Opens k g ≡ Opens l h
 opening_same k l g h p q e =
     let terms = cut_same (eights (k ∷ g.spread ∷ g.number ∷ [])) (eights g.rates ++ eights (map twos_complement g.balances)) (eights (l ∷ h.spread ∷ h.number ∷ [])) (eights h.rates ++ eights (map twos_complement h.balances)) (length_eights (k ∷ g.spread ∷ g.number ∷ []) ∙ sym (length_eights (l ∷ h.spread ∷ h.number ∷ []))) e in
     let rows = cut_same (eights g.rates) (eights (map twos_complement g.balances)) (eights h.rates) (eights (map twos_complement h.balances)) (omega (arith, length_eights g.rates, length_eights h.rates, p.0, q.0)) terms.1 in

@@ -1,5 +1,7 @@
 -- A run, one frame after another.
-use Rattle.std.proofs.Common.{◌≡◌, ℕ, ◌+◌, ◌-◌, ◌<◌, ◌≤◌, List, [], ◌∷◌, ◌++◌, length, drop, Option, Some, None, MatchOption, Result, Ok, Err, MatchResult, OnErr, is_ok, if◌then◌else◌, refl, ap, sym, ◌∙◌, subst, inl, inr, arith, length-drop, length-append, append_assoc, append-nil}
+use Rattle.std.proofs.Common.{◌≡◌, ℕ, ◌+◌, ◌-◌, ◌<◌, ◌≤◌, List, [], ◌∷◌, ◌++◌, length, drop, Option, Some, None, MatchOption, Result, Ok}
+use Rattle.std.proofs.Common.{Err, MatchResult, OnErr, is_ok, if◌then◌else◌, refl, ap, sym, ◌∙◌, subst, inl, inr, arith, length-drop}
+use Rattle.std.proofs.Common.{length-append, append_assoc, append-nil}
 use Rattle.std.specs.List.{flat_map}
 use Rattle.std.proofs.lemmas.List.Elements.{All-push}
 use Rattle.std.proofs.lemmas.List.{flat_map_more}
@@ -19,7 +21,8 @@ abbrev pub also : List Exchange → Framed → Line → List Exchange
 also xs frame told = xs ++ (record { frame = frame; told = told }) ∷ []
 
 -- a frame more
-works_one_more : (before between after : State) (xs : List Exchange) (x : Exchange) → WorksAll before xs between → Works between x.frame x.told after → WorksAll before (xs ++ x ∷ []) after
+works_one_more : (before between after : State) (xs : List Exchange) (x : Exchange) → WorksAll before xs between
+    → Works between x.frame x.told after → WorksAll before (xs ++ x ∷ []) after
 works_one_more before between after [] x same works = (after, subst (λ (s : State). Works s x.frame x.told after) same works, refl)
 works_one_more before between after (y ∷ ys) x first works = (first.0, first.1, works_one_more first.0 between after ys x first.2 works)
 
@@ -108,7 +111,8 @@ module _ {before : State} {input : List ℕ} {old new : List ℕ} {p : ℕ} {bet
       so_far.carries,
     )
 
-    no_room_for_the_last_line : (room : ℕ) → room < length new + length (line_bytes (line.NoFrame e.at)) → LacksRoomWith CarriesJournalAll before input room old new between
+    no_room_for_the_last_line : (room : ℕ) → room < length new + length (line_bytes (line.NoFrame e.at))
+        → LacksRoomWith CarriesJournalAll before input room old new between
     no_room_for_the_last_line room short = (
       record {
         exchanges = so_far.exchanges;
@@ -123,7 +127,9 @@ module _ {before : State} {input : List ℕ} {old new : List ℕ} {p : ℕ} {bet
     )
 
     -- the last line was appended, or there is no room for it
-    pub end_of_run : {E : Type 0} {last : List ℕ} (room : ℕ) (ended : Result Unit E) → last ≡ (if is_ok ended then new ++ line_bytes (line.NoFrame e.at) else new) → OnErr ended (room < length last + length (line_bytes (line.NoFrame e.at)))
+    pub end_of_run : {E : Type 0} {last : List ℕ} (room : ℕ) (ended : Result Unit E)
+        → last ≡ (if is_ok ended then new ++ line_bytes (line.NoFrame e.at) else new)
+        → OnErr ended (room < length last + length (line_bytes (line.NoFrame e.at)))
         → MatchResult ended (λ _. PrintedWith CarriesJournalAll before input old last between) (λ _. LacksRoomWith CarriesJournalAll before input room old last between)
     end_of_run room (Ok u) is full = subst (λ (l : List ℕ). PrintedWith CarriesJournalAll before input old l between) (sym is) at_no_frame
     end_of_run room (Err x) is full =
@@ -131,10 +137,12 @@ module _ {before : State} {input : List ℕ} {old new : List ℕ} {p : ℕ} {bet
         subst (λ (l : List ℕ). LacksRoomWith CarriesJournalAll before input room old l between) (sym is) (no_room_for_the_last_line room short)
 
 -- what the reader found, in the input that it reads
-pub found_frame : {s input : List ℕ} {p q : ℕ} {next : Option Frame} {f : Frame} → s ≡ input → MatchOption next (AtEnd s p q) (λ x. FrameAt s p q (framed x)) → next ≡ Some f → FrameAt input p q (framed f)
+pub found_frame : {s input : List ℕ} {p q : ℕ} {next : Option Frame} {f : Frame} → s ≡ input
+    → MatchOption next (AtEnd s p q) (λ x. FrameAt s p q (framed x)) → next ≡ Some f → FrameAt input p q (framed f)
 found_frame {s} {input} {p} {q} {next} {f} same found is =
     subst (λ (l : List ℕ). FrameAt l p q (framed f)) same (subst (λ (o : Option Frame). MatchOption o (AtEnd s p q) (λ x. FrameAt s p q (framed x))) is found)
 
-pub found_end : {s input : List ℕ} {p q : ℕ} {next : Option Frame} → s ≡ input → MatchOption next (AtEnd s p q) (λ x. FrameAt s p q (framed x)) → next ≡ None → AtEnd input p q
+pub found_end : {s input : List ℕ} {p q : ℕ} {next : Option Frame} → s ≡ input
+    → MatchOption next (AtEnd s p q) (λ x. FrameAt s p q (framed x)) → next ≡ None → AtEnd input p q
 found_end {s} {input} {p} {q} {next} same found is =
     subst (λ (l : List ℕ). AtEnd l p q) same (subst (λ (o : Option Frame). MatchOption o (AtEnd s p q) (λ x. FrameAt s p q (framed x))) is found)

@@ -1,5 +1,7 @@
 -- A stream goes on with a frame exactly where the reader finds the field that is due by its next tag.
-use Rattle.std.proofs.Common.{◌≡◌, ℕ, ◌+◌, ◌<◌, Bool, true, false, List, [], ◌∷◌, ◌++◌, length, take, drop, ◌==◌, nat_le, slice_get, slice_index, get_or, Some, None, refl, ap, sym, ◌∙◌, subst, arith, length-drop, take-append-drop, length-take-le, add-zero}
+use Rattle.std.proofs.Common.{◌≡◌, ℕ, ◌+◌, ◌<◌, Bool, true, false, List, [], ◌∷◌, ◌++◌, length, take, drop, ◌==◌, nat_le, slice_get}
+use Rattle.std.proofs.Common.{slice_index, get_or, Some, None, refl, ap, sym, ◌∙◌, subst, arith, length-drop, take-append-drop}
+use Rattle.std.proofs.Common.{length-take-le, add-zero}
 use Rattle.std.proofs.lemmas.Option.{slice_get_within, get_or_from_slice_get}
 use Rattle.std.proofs.lemmas.List.{get_or-drop}
 use Rattle.fields.specs.Bytes.{field_of}
@@ -32,7 +34,9 @@ module _ (p : ℕ) (e : FieldFault) where
   place_is : (f : FieldFault) → Some f ≡ Some e → (field_refusal f).place ≡ p → (field_refusal e).place ≡ p
   place_is f is at = let same : f ≡ e = cc in ap (λ x. (field_refusal x).place) (sym same) ∙ at
 
-  place_among : (head tag size value : Bool) → first_no ((head, NoHead p) ∷ (tag, WrongTag p) ∷ (size, WrongLength p) ∷ (value, CutShort p) ∷ []) ≡ Some e → (field_refusal e).place ≡ p
+  place_among : (head tag size value : Bool)
+      → first_no ((head, NoHead p) ∷ (tag, WrongTag p) ∷ (size, WrongLength p) ∷ (value, CutShort p) ∷ []) ≡ Some e
+      → (field_refusal e).place ≡ p
   place_among false tag size value is = place_is (NoHead p) is refl
   place_among true false size value is = place_is (WrongTag p) is refl
   place_among true true false value is = place_is (WrongLength p) is refl
@@ -55,7 +59,8 @@ module _ (bs : List ℕ) (p : ℕ) (tag : ℕ) (next : slice_get bs p ≡ Some t
       sym first ∙ dropped ∙ ap (λ i. get_or bs i 0) (add-zero p) ∙ here
 
   -- the due field is found where it stands
-  found : (d : Due) (e : FieldFault) (value later : List ℕ) → Parts d (length value) → drop p bs ≡ field_of d.tag value ++ later → first_no (field_asked bs p d) ≡ Some e → ⊥
+  found : (d : Due) (e : FieldFault) (value later : List ℕ) → Parts d (length value) → drop p bs ≡ field_of d.tag value ++ later
+      → first_no (field_asked bs p d) ≡ Some e → ⊥
   found d e value later parts is stopped =
       let whole : bs ≡ take p bs ++ (field_of d.tag value ++ later) = sym (take-append-drop p bs) ∙ ap (λ l. take p bs ++ l) is in
       let at : length (take p bs) ≡ p = length-take-le p bs (omega (arith, within)) in
@@ -70,7 +75,8 @@ module _ (bs : List ℕ) (p : ℕ) (tag : ℕ) (next : slice_get bs p ≡ Some t
         found d e value later parts here asked
 
     -- the field that was due by the tag is not there
-    pub no_frame_at : (15 ≡ tag → opening_due ≡ due) → (16 ≡ tag → file_due 16 ≡ due) → (17 ≡ tag → file_due 17 ≡ due) → (told : NoFrame) → told.at ≡ (field_refusal e).place → NoFrameAt bs p q told
+    pub no_frame_at : (15 ≡ tag → opening_due ≡ due) → (16 ≡ tag → file_due 16 ≡ due) → (17 ≡ tag → file_due 17 ≡ due) → (told : NoFrame)
+        → told.at ≡ (field_refusal e).place → NoFrameAt bs p q told
     no_frame_at opening entry amendment told place = record {
       none = record {
         some = rw length-drop (omega (arith, within));

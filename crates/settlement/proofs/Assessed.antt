@@ -1,5 +1,6 @@
 -- What a mechanism answers, month by month, and the position that is taken of it.
-use Rattle.std.proofs.Common.{◌≡◌, ℕ, zero, suc, ◌+◌, ◌-◌, ◌<◌, ◌≤◌, List, [], ◌∷◌, ◌++◌, map, length, get_or, slice_index_or, sum, sum_by, take, refl, ap, sym, ◌∙◌, ℤ, Option, Some, None, MatchOption, slice_get, arith}
+use Rattle.std.proofs.Common.{◌≡◌, ℕ, zero, suc, ◌+◌, ◌-◌, ◌<◌, ◌≤◌, List, [], ◌∷◌, ◌++◌, map, length, get_or, slice_index_or, sum, sum_by}
+use Rattle.std.proofs.Common.{take, refl, ap, sym, ◌∙◌, ℤ, Option, Some, None, MatchOption, slice_get, arith}
 use Rattle.std.proofs.lemmas.Nat.{mul-le}
 use Rattle.std.proofs.Math.Nat.{mul-le-mul_right}
 use Rattle.std.proofs.lemmas.List.Sums.{sum-map, sum_by-le}
@@ -19,7 +20,8 @@ use Rattle.month.specs.View.{figures}
 use Rattle.month.specs.declared.month.Month.{Month}
 use Rattle.settlement.specs.Bounds.{greatest_allowance, greatest_recent}
 use Rattle.settlement.specs.Rules.{balance_after, recent}
-use Rattle.settlement.specs.Months.{allowances, assessed_at, quantity_at, LawfulLast, AssessesLast, AllLawful, Settleable, Assesses, quantity_of, rate_of}
+use Rattle.settlement.specs.Months.{allowances, assessed_at, quantity_at, LawfulLast, AssessesLast, AllLawful, Settleable, Assesses}
+use Rattle.settlement.specs.Months.{quantity_of, rate_of}
 use Rattle.settlement.specs.Numbers.{by_number}
 use Rattle.settlement.specs.Positions.{IsPosition}
 use Rattle.settlement.specs.declared.position.Position.{Position}
@@ -57,7 +59,8 @@ module _ (k : Meaning) where
     answer_last : (j : ℕ) → j ≡ length ms → assessed_at k (ms ++ m ∷ []) j ≡ k.assessed (ms ++ m ∷ [])
     answer_last j e = ap k.assessed (take_all (suc j) (ms ++ m ∷ []) (omega (arith, length_push ms m)))
 
-    answers_more : (part : ℕ × ℕ → ℕ) → by_number (λ j. part (assessed_at k (ms ++ m ∷ []) j)) (length (ms ++ m ∷ [])) ≡ by_number (λ j. part (assessed_at k ms j)) (length ms) ++ part (k.assessed (ms ++ m ∷ [])) ∷ []
+    answers_more : (part : ℕ × ℕ → ℕ)
+        → by_number (λ j. part (assessed_at k (ms ++ m ∷ []) j)) (length (ms ++ m ∷ [])) ≡ by_number (λ j. part (assessed_at k ms j)) (length ms) ++ part (k.assessed (ms ++ m ∷ [])) ∷ []
     answers_more part =
         let long : length (ms ++ m ∷ []) ≡ suc (length ms) = omega (arith, length_push ms m) in
         rw (long, answer_last (length ms) refl, by_number_same (λ j. part (assessed_at k (ms ++ m ∷ []) j)) (λ j. part (assessed_at k ms j)) (length ms) (λ j h. ap part (answer_before j h))) refl
@@ -71,7 +74,8 @@ module _ (k : Meaning) where
         }
 
     -- one month more, and its assessment
-    pub assesses_more : (found : List Assessment) (a : Assessment) → Assesses k ms found → AssessesLast k (ms ++ m ∷ []) a → length found < 36 → Assesses k (ms ++ m ∷ []) (found ++ a ∷ [])
+    pub assesses_more : (found : List Assessment) (a : Assessment) → Assesses k ms found → AssessesLast k (ms ++ m ∷ []) a
+        → length found < 36 → Assesses k (ms ++ m ∷ []) (found ++ a ∷ [])
     assesses_more found a so_far last few =
         let long : length found ≡ length ms = omega (arith, simp length-map at (ap length so_far.quantities)) in
         let newest : a.quantity ≡ k.quantity m = last.quantity ∙ quantity_last _ (omega (arith, length_push ms m)) in
@@ -83,14 +87,17 @@ module _ (k : Meaning) where
         }
 
   -- one month more of those that stand, and its assessment, in a list with room for no more than may stand
-  pub assesses_next : (months : List Month) (n : ℕ) {room : ℕ} (before after : UpTo Assessment room) (a : Assessment) → room ≤ 36 → Assesses k (map figures (take n months)) (held before) → AssessesLast k (map figures (take (n + 1) months)) a → n < length months → Grew before after a → Assesses k (map figures (take (n + 1) months)) (held after)
+  pub assesses_next : (months : List Month) (n : ℕ) {room : ℕ} (before after : UpTo Assessment room) (a : Assessment) → room ≤ 36
+      → Assesses k (map figures (take n months)) (held before) → AssessesLast k (map figures (take (n + 1) months)) a → n < length months
+      → Grew before after a → Assesses k (map figures (take (n + 1) months)) (held after)
   assesses_next months n before after a most so_far last h grew =
       let next = next_taken months n h in
       let is : map figures (take (n + 1) months) ≡ map figures (take n months) ++ figures next.0 ∷ [] = ap (map figures) next.1 ∙ map_push figures (take n months) next.0 in
       rw (is, grew.items) (assesses_more (map figures (take n months)) (figures next.0) (held before) a so_far (rw is at last) (omega (arith, grew.room, most)))
 
   -- where the answer for one month breaks the law, those for all do
-  pub unlawful_by : (months : List Month) (n : ℕ) → ¬ LawfulLast k (map figures (take (n + 1) months)) → n < length months → ¬ AllLawful k (map figures months)
+  pub unlawful_by : (months : List Month) (n : ℕ) → ¬ LawfulLast k (map figures (take (n + 1) months)) → n < length months
+      → ¬ AllLawful k (map figures months)
   unlawful_by months n broken h all = broken (rw (← take-map) (lawful_up_to (map figures months) n all (omega (arith, length-map months figures))))
 
   module _ (ms : List Figures) (found : List Assessment) (s : Assesses k ms found) where
@@ -115,7 +122,10 @@ module _ (k : Meaning) where
     recent_allowed = sym (sum-map allowance_of (latest 3 found)) ∙ ap sum (sym (latest_map allowance_of 3 found) ∙ ap (latest 3) s.allowances)
 
     -- the position, by the assessments of the months that stand
-    pub is_position : (i : ℕ) (opening : ℤ) (bills : List (List ℤ)) (p : Position) → p.outstanding ≡ balance_after opening i (map allowance_of found) (map quantity_of found) bills → p.recent ≡ sum_by allowance_of (latest 3 found) → 0 < length found → p.last ≡ slice_index_or found (length found - 1) p.last → Settleable k ms × IsPosition k i opening ms bills p
+    pub is_position : (i : ℕ) (opening : ℤ) (bills : List (List ℤ)) (p : Position)
+        → p.outstanding ≡ balance_after opening i (map allowance_of found) (map quantity_of found) bills
+        → p.recent ≡ sum_by allowance_of (latest 3 found) → 0 < length found → p.last ≡ slice_index_or found (length found - 1) p.last
+        → Settleable k ms × IsPosition k i opening ms bills p
     is_position i opening bills p outstanding recent some last = (
       record { some = omega (arith, as_many); lawful = s.lawful },
       record {
@@ -139,7 +149,9 @@ module _ (k : Meaning) (months : List Month) (m : Month) (last : Some m ≡ slic
       let long : length ms ≡ length months = length-map months figures in
       rw (long, get_or-map k.quantity ms (length months - 1) (figures m) 0 (omega arith), get_or-map figures months (length months - 1) m (figures m) inside, get_or_from_slice_get months (length months - 1) m m (sym last)) quantity_is
 
-  pub last_assessed : (made : Option Assessment) → MatchOption made (¬ LawfulAnswer quantity answer) (λ a. (a.quantity ≡ quantity) × (a.answer ≡ answer)) → MatchOption made (¬ LawfulLast k (map figures months)) (AssessesLast k (map figures months))
+  pub last_assessed : (made : Option Assessment)
+      → MatchOption made (¬ LawfulAnswer quantity answer) (λ a. (a.quantity ≡ quantity) × (a.answer ≡ answer))
+      → MatchOption made (¬ LawfulLast k (map figures months)) (AssessesLast k (map figures months))
   last_assessed None broken = λ l. broken (rw (quantity_of_last, answer_is) l.lawful)
   last_assessed (Some a) is =
       let quantity_now = is.0 ∙ quantity_of_last in

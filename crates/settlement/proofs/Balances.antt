@@ -1,5 +1,6 @@
 -- How large what a month adds to a balance may be, what a balance is after some of the months, and the total of some of the mechanisms.
-use Rattle.std.proofs.Common.{◌≡◌, ℕ, suc, ◌+◌, ◌<◌, ◌≤◌, List, length, map, ap, sym, ◌∙◌, ℤ, pos, negsuc, ◌+ℤ◌, ◌-ℤ◌, ◌*ℤ◌, ◌≤ℤ◌, get_or, slice_index, slice_index_or, w64, to_z, of_z, arith}
+use Rattle.std.proofs.Common.{◌≡◌, ℕ, suc, ◌+◌, ◌<◌, ◌≤◌, List, length, map, ap, sym, ◌∙◌, ℤ, pos, negsuc, ◌+ℤ◌, ◌-ℤ◌, ◌*ℤ◌, ◌≤ℤ◌, get_or}
+use Rattle.std.proofs.Common.{slice_index, slice_index_or, w64, to_z, of_z, arith}
 use Rattle.std.proofs.lemmas.Int.{ints}
 use Rattle.std.proofs.lemmas.Nat.{mul-le}
 use Rattle.std.proofs.lemmas.List.{length-map, get_or-map}
@@ -25,7 +26,8 @@ charged_most (pos n) q high few = rw (pos-*ℤ-pos n q) (omega (arith, ints, mul
 charged_most (negsuc n) q high few = rw (negsuc-*ℤ-pos n q) (omega (arith, ints))
 
 -- what the code's product gives
-pub charged_is : (r : ℤ) (q : ℕ) → negsuc 999999 ≤ℤ r → r ≤ℤ pos 11000000 → q ≤ 10000000 → to_z w64 (of_z w64 (to_z w64 (of_z w64 r) *ℤ to_z w64 q)) ≡ r *ℤ pos q
+pub charged_is : (r : ℤ) (q : ℕ) → negsuc 999999 ≤ℤ r → r ≤ℤ pos 11000000 → q ≤ 10000000
+    → to_z w64 (of_z w64 (to_z w64 (of_z w64 r) *ℤ to_z w64 q)) ≡ r *ℤ pos q
 charged_is r q low high few =
     let least = charged_least r q low few in
     let most = charged_most r q high few in
@@ -43,7 +45,9 @@ balance_so_far opening i found bills n =
     opening +ℤ int_sum (by_number (λ j. pos (slice_index (map allowance_of found) j) -ℤ (billed_rate bills i j *ℤ pos (slice_index (map quantity_of found) j))) n)
 
 -- month n adds the month_adds of its assessment
-pub one_month_more : (opening : ℤ) (i : ℕ) (found : List Assessment) (bills : List (List ℤ)) (n : ℕ) (a : Assessment) → a ≡ get_or found n a → n < length found → balance_so_far opening i found bills (n + 1) ≡ balance_so_far opening i found bills n +ℤ (pos a.answer.1 -ℤ (billed_rate bills i n *ℤ pos a.quantity))
+pub one_month_more : (opening : ℤ) (i : ℕ) (found : List Assessment) (bills : List (List ℤ)) (n : ℕ) (a : Assessment) → a ≡ get_or found n a
+    → n < length found
+    → balance_so_far opening i found bills (n + 1) ≡ balance_so_far opening i found bills n +ℤ (pos a.answer.1 -ℤ (billed_rate bills i n *ℤ pos a.quantity))
 one_month_more opening i found bills n a at within =
     let allowance : slice_index (map allowance_of found) n ≡ a.answer.1 = get_or-map allowance_of found n a 0 within ∙ ap allowance_of (sym at) in
     let quantity : slice_index (map quantity_of found) n ≡ a.quantity = get_or-map quantity_of found n a 0 within ∙ ap quantity_of (sym at) in
@@ -54,7 +58,9 @@ abbrev pub total_so_far : List Meaning → List ℤ → List Figures → List (L
 total_so_far row balances ms bills n = int_sum (by_number (λ i. outstanding (numbered row i) i (slice_index_or balances i (pos 0)) ms bills) n)
 
 -- mechanism n adds its balance
-pub one_mechanism_more : (row : List Meaning) (openings : List OpeningBalance) (ms : List Figures) (bills : List (List ℤ)) (n : ℕ) (x : OpeningBalance) (b : ℤ) → n < length openings → x ≡ get_or openings n x → b ≡ outstanding (numbered row n) n x.units ms bills → total_so_far row (map (λ o. o.units) openings) ms bills (n + 1) ≡ total_so_far row (map (λ o. o.units) openings) ms bills n +ℤ b
+pub one_mechanism_more : (row : List Meaning) (openings : List OpeningBalance) (ms : List Figures) (bills : List (List ℤ)) (n : ℕ) (x : OpeningBalance) (b : ℤ)
+    → n < length openings → x ≡ get_or openings n x → b ≡ outstanding (numbered row n) n x.units ms bills
+    → total_so_far row (map (λ o. o.units) openings) ms bills (n + 1) ≡ total_so_far row (map (λ o. o.units) openings) ms bills n +ℤ b
 one_mechanism_more row openings ms bills n x b within at is =
     let balances : List ℤ = map (λ o. o.units) openings in
     let opening : slice_index_or balances n (pos 0) ≡ x.units = get_or-map (λ o. o.units) openings n x (pos 0) within ∙ ap (λ o. o.units) (sym at) in
@@ -62,7 +68,9 @@ one_mechanism_more row openings ms bills n x b within at is =
     rw (next, is, ← opening) (int_sum-push (by_number (λ i. outstanding (numbered row i) i (slice_index_or balances i (pos 0)) ms bills) n) _)
 
 -- after all of them it is the total
-pub all_mechanisms : (row : List Meaning) (openings : List OpeningBalance) (balances : List ℤ) (ms : List Figures) (bills : List (List ℤ)) (n : ℕ) (t : ℤ) → map (λ o. o.units) openings ≡ balances → n ≡ length openings → t ≡ total_so_far row (map (λ o. o.units) openings) ms bills n → t ≡ total row balances ms bills
+pub all_mechanisms : (row : List Meaning) (openings : List OpeningBalance) (balances : List ℤ) (ms : List Figures) (bills : List (List ℤ)) (n : ℕ) (t : ℤ)
+    → map (λ o. o.units) openings ≡ balances → n ≡ length openings → t ≡ total_so_far row (map (λ o. o.units) openings) ms bills n
+    → t ≡ total row balances ms bills
 all_mechanisms row openings balances ms bills n t same all so_far =
     let counted : n ≡ length balances = all ∙ sym (length-map openings (λ o. o.units)) ∙ ap length same in
     so_far ∙ ap (λ bs. total_so_far row bs ms bills n) same ∙ ap (total_so_far row balances ms bills) counted

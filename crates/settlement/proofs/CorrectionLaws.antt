@@ -1,5 +1,6 @@
 -- A rate is the one that the rules give exactly where it keeps the laws of a correction.
-use Rattle.std.proofs.Common.{◌≡◌, ℕ, zero, suc, ◌+◌, ◌*◌, ◌/◌, ◌<◌, ◌≤◌, ◌⊎◌, inl, inr, Bool, true, false, refl, ap, sym, ◌∙◌, ℤ, pos, negsuc, neg_ℤ, nat_abs, ◌+ℤ◌, ◌-ℤ◌, ◌<ℤ◌, Option, Some, None, div-mul-le_self, arith}
+use Rattle.std.proofs.Common.{◌≡◌, ℕ, zero, suc, ◌+◌, ◌*◌, ◌/◌, ◌<◌, ◌≤◌, ◌⊎◌, inl, inr, Bool, true, false, refl, ap, sym, ◌∙◌, ℤ, pos}
+use Rattle.std.proofs.Common.{negsuc, neg_ℤ, nat_abs, ◌+ℤ◌, ◌-ℤ◌, ◌<ℤ◌, Option, Some, None, div-mul-le_self, arith}
 use Rattle.std.proofs.Math.Nat.{lt-div-mul-add, div-le_self, mul-le-mul_right}
 use Rattle.std.proofs.lemmas.Bool.{cases_lt}
 use Rattle.std.proofs.lemmas.Int.{ints, clamps}
@@ -133,7 +134,8 @@ module _ (mark : Option Mark) (spread : ℕ) (balance : ℤ) (quantity : ℕ) wh
       let small : nat_abs (given Correcting) ≤ nat_abs balance / d = omega (arith, barred_size (cut quotient) (not_filed mark), cut_size quotient, spread_size d balance) in
       omega (arith, mul-le-mul_right {m = nat_abs (given Correcting)} {n = nat_abs balance / d} d small, div-mul-le_self (nat_abs balance) d)
 
-  given_tight : 1 ≤ spread * quantity → (pos 0 <ℤ balance → Unbarred mark) → nat_abs (given Correcting) < 1000000 → nat_abs balance < (nat_abs (given Correcting) + 1) * (spread * quantity)
+  given_tight : 1 ≤ spread * quantity → (pos 0 <ℤ balance → Unbarred mark) → nat_abs (given Correcting) < 1000000
+      → nat_abs balance < (nat_abs (given Correcting) + 1) * (spread * quantity)
   given_tight some free few =
       let d = spread * quantity in
       let all : given Correcting ≡ cut quotient = not_barred (cut quotient) (not_filed mark) (λ up. bars_none mark (free (spread_upward d balance (cut_upward quotient up)))) in
@@ -167,7 +169,8 @@ abbrev pub at_rate : Announcement → ℤ → Announcement
 at_rate a r = record a { rate = r }
 
 -- of two rates that keep the laws neither is corrected by less
-not_less : (a : Announcement) (r : ℤ) → Corrects (at_rate a r) → Rounds a → Rounds (at_rate a r) → a.standing ≡ Correcting → (pos 0 <ℤ a.outstanding → Unbarred a.mark) → nat_abs (difference (at_rate a r)) ≤ nat_abs (difference a)
+not_less : (a : Announcement) (r : ℤ) → Corrects (at_rate a r) → Rounds a → Rounds (at_rate a r) → a.standing ≡ Correcting
+    → (pos 0 <ℤ a.outstanding → Unbarred a.mark) → nat_abs (difference (at_rate a r)) ≤ nat_abs (difference a)
 not_less a r laws rounded other correcting free = elim (cases_lt (nat_abs (difference a)) (nat_abs (difference (at_rate a r)))) [
   | inl less ↦ absurd (omega (arith, rounded.tight correcting free (omega (arith, less, laws.limit)), other.covered, mul-le-mul_right {m = nat_abs (difference a) + 1} {n = nat_abs (difference (at_rate a r))} (unit_comes_to a) (omega arith)))
   | inr more ↦ more

@@ -23,7 +23,8 @@ map-by_number h f zero = refl
 map-by_number h f (suc n) = map_push h (by_number f n) (f n) ∙ ap (λ xs. xs ++ h (f n) ∷ []) (map-by_number h f n)
 
 -- a list is the one by number where each of its elements is
-pub is_by_number : {X Y : Type 0} (h : X → Y) (xs : List X) (d : X) (f : ℕ → Y) → ((i : ℕ) → i < length xs → h (slice_index_or xs i d) ≡ f i) → map h xs ≡ by_number f (length xs)
+pub is_by_number : {X Y : Type 0} (h : X → Y) (xs : List X) (d : X) (f : ℕ → Y)
+    → ((i : ℕ) → i < length xs → h (slice_index_or xs i d) ≡ f i) → map h xs ≡ by_number f (length xs)
 is_by_number h xs d f each =
     let long : length (map h xs) ≡ length (by_number f (length xs)) = omega (arith, length-map xs h, length-by_number f (length xs)) in
     same_lists (map h xs) (by_number f (length xs)) long (λ k e inside.

@@ -1,5 +1,6 @@
 -- The positions of the mechanisms, one after another.
-use Rattle.std.proofs.Common.{◌≡◌, ℕ, ◌+◌, ◌<◌, ◌≤◌, List, [], ◌∷◌, ◌++◌, map, length, get_or, slice_index_or, take, refl, ap, sym, ◌∙◌, ℤ, pos, Some, slice_get, arith}
+use Rattle.std.proofs.Common.{◌≡◌, ℕ, ◌+◌, ◌<◌, ◌≤◌, List, [], ◌∷◌, ◌++◌, map, length, get_or, slice_index_or, take, refl, ap, sym, ◌∙◌, ℤ}
+use Rattle.std.proofs.Common.{pos, Some, slice_get, arith}
 use Rattle.std.proofs.lemmas.List.{length-map, length_push, length-take-le, map_more, get_or_push, get_or_append_left}
 use Rattle.std.proofs.lemmas.Option.{slice_get_within, get_or_from_slice_get, slice_get-get_or}
 use borrow.Author.Count.{below_more}
@@ -15,7 +16,9 @@ use Rattle.settlement.specs.declared.amounts.OpeningBalance.{OpeningBalance}
 use Rattle.settlement.specs.declared.position.Position.{Position}
 
 -- where each mechanism has an opening balance, the number of a balance is one that a schedule is asked for
-pub own_number : (row : List Meaning) (balances : UpTo OpeningBalance 8) (items : List OpeningBalance) (number : ℕ) → length (opening_units balances) ≡ length row → items ≡ held balances → length items ≤ 8 → number < length items → MayBeAsked row number × (number < length (opening_units balances))
+pub own_number : (row : List Meaning) (balances : UpTo OpeningBalance 8) (items : List OpeningBalance) (number : ℕ)
+    → length (opening_units balances) ≡ length row → items ≡ held balances → length items ≤ 8 → number < length items
+    → MayBeAsked row number × (number < length (opening_units balances))
 own_number row balances items number count is few inside =
     let here : number < length (opening_units balances) = omega (arith, inside, ap length is, length-map (held balances) (λ b. b.units)) in
     (record { own = omega (arith, here, count); up_to_7 = omega (arith, few, inside) }, here)
@@ -57,7 +60,10 @@ module _ (row : List Meaning) (ms : List Figures) (bills : List (List ℤ)) wher
     front_length = omega (arith, length-map (take n openings) (λ b. b.units), length-take-le n openings (omega arith))
 
     -- one mechanism more, with its position
-    pub positions_next : (x : OpeningBalance) (before after : UpTo Position 8) (p : Position) → ArePositions row (map (λ b. b.units) (take n openings)) ms bills (held before) → x ≡ get_or openings n x → Settleable (numbered row n) ms × IsPosition (numbered row n) n x.units ms bills p → Grew before after p → ArePositions row (map (λ b. b.units) (take (n + 1) openings)) ms bills (held after)
+    pub positions_next : (x : OpeningBalance) (before after : UpTo Position 8) (p : Position)
+        → ArePositions row (map (λ b. b.units) (take n openings)) ms bills (held before) → x ≡ get_or openings n x
+        → Settleable (numbered row n) ms × IsPosition (numbered row n) n x.units ms bills p → Grew before after p
+        → ArePositions row (map (λ b. b.units) (take (n + 1) openings)) ms bills (held after)
     positions_next x before after p so_far at is grew =
         let next : map (λ b. b.units) (take (n + 1) openings) ≡ map (λ b. b.units) (take n openings) ++ x.units ∷ [] = map_more (λ b. b.units) openings n x h ∙ ap (λ y. map (λ b. b.units) (take n openings) ++ y.units ∷ []) (sym at) in
         rw (next, grew.items) (positions_more (map (λ b. b.units) (take n openings)) (held before) so_far x.units p (rw front_length is.1) (rw front_length is.0))

@@ -8,11 +8,15 @@ use Rattle.monthpage.proofs.answers.put_answer.Goals as goal
 
 -- the line where the month is not fit, and where it is
 module _ (number : ℕ) (name : List ℕ) (k : Meaning) (f : Figures) (old new : List ℕ) where
-  unfit_put : k.fit f ≡ false → new ≡ old ++ line (codes "charge " ∷ decimal number ∷ codes ", " ∷ name ∷ codes ": the month is not fit" ∷ []) → new ≡ old ++ line (charge_line number name k f)
+  unfit_put : k.fit f ≡ false
+      → new ≡ old ++ line (codes "charge " ∷ decimal number ∷ codes ", " ∷ name ∷ codes ": the month is not fit" ∷ [])
+      → new ≡ old ++ line (charge_line number name k f)
   unfolding line
   unfit_put is put = rw is put
 
-  fit_put : k.fit f ≡ true → new ≡ old ++ line (codes "charge " ∷ decimal number ∷ codes ", " ∷ name ∷ codes ": quantity " ∷ decimal (k.quantity f) ∷ codes " kWh, base rate " ∷ decimal (k.assessed (f ∷ [])).0 ∷ codes " units per kWh, allowance " ∷ units (k.assessed (f ∷ [])).1 ∷ []) → new ≡ old ++ line (charge_line number name k f)
+  fit_put : k.fit f ≡ true
+      → new ≡ old ++ line (codes "charge " ∷ decimal number ∷ codes ", " ∷ name ∷ codes ": quantity " ∷ decimal (k.quantity f) ∷ codes " kWh, base rate " ∷ decimal (k.assessed (f ∷ [])).0 ∷ codes " units per kWh, allowance " ∷ units (k.assessed (f ∷ [])).1 ∷ [])
+      → new ≡ old ++ line (charge_line number name k f)
   unfolding line
   fit_put is put = rw is put
 

@@ -8,7 +8,8 @@ use Rattle.month.proofs.Blank.{no_source}
 use Rattle.month.proofs.within.WithinLimits.bought.Goals as goal
 
 -- one source more, of a list that is known to be ys
-more : (part : Source → ℕ) (xs ys : List Source) (i : ℕ) → xs ≡ ys → i < length xs → sum_by part (take i xs) + part (get_or xs i no_source) ≤ sum_by part ys
+more : (part : Source → ℕ) (xs ys : List Source) (i : ℕ) → xs ≡ ys → i < length xs
+    → sum_by part (take i xs) + part (get_or xs i no_source) ≤ sum_by part ys
 more part xs ys i is h = omega (arith, sum_by_more_le part xs i no_source h, ap (sum_by part) is)
 
 pub overflow_add-cost : goal.overflow_add-cost
